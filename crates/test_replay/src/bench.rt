@@ -128,14 +128,19 @@ impl<S: Tested> Bench<S> {
     // Makes a call of a key: how often it compares.
     fn sweep_key(&mut self, call: &Call<'_>, code: u64, to: &mut Answer) -> Option<u32> {
         let text = format!(in call.alloc; "{code}").ok()?;
-        let more = call.words.get(1).copied().unwrap_or("");
-        let words = [call.words.first().copied()?, text.as_str(), more];
-        let one = call.another(&words);
-        let key = one.key(0)?;
+        let words = [call.word(0)?, text.as_str(), call.word(1).unwrap_or("")];
+        self.sweep_one(&call.another(&words), to)
+    }
+
+    // Makes a call of a key, and puts back what the map had of it: how often it compares.
+    fn sweep_one(&mut self, call: &Call<'_>, to: &mut Answer) -> Option<u32> {
+        let key = call.key(0)?;
         let old = self.map.get(&key).map(Value::number);
         to.clear();
         call.seen.keys.compared.set(0);
-        self.one(&one, to).then_some(())?;
+        if !self.one(call, to) {
+            return None;
+        }
         let compared = call.seen.keys.compared.get();
         if !call.is_of_store() {
             self.put_back(key, old, call, to)?;

@@ -12,6 +12,7 @@ use litemap::LiteMap;
 use litemap::store::{Count, NoRoom, StoreAlloc, StoreBulkMut, StoreMut};
 use litemap_columns::ColumnStore;
 use litemap_read::{PairSource, ReadFault, extend_from_source, read_pairs, read_results};
+use std::alloc::AllocError;
 use std::cell::Cell;
 use std::vec::IntoIter;
 
@@ -35,18 +36,24 @@ pub fn gather<S: Tested>(map: &mut Map<S>, call: &Call<'_>, to: &mut Answer) -> 
 
 // A map with no pair, a clone or a map of these pairs replaces the old one.
 fn renew<S: Tested>(map: &mut Map<S>, call: &Call<'_>, to: &mut Answer) -> Made {
-    let (alloc, count) = (call.alloc, &mut Count::new());
+    let alloc = call.alloc;
     let made = match call.name {
         "new" => Ok(LiteMap::new(alloc)),
         "with_capacity" => LiteMap::with_capacity(alloc, call.size(0)?),
         "clone" => map.try_clone(alloc),
-        "from_iter" => LiteMap::from_iter(alloc, call.given()?),
-        "collected" => call.given()?.into_iter().collect(alloc),
-        "from_iter_counted" => LiteMap::from_iter_counted(alloc, call.given()?, count),
+        "from_iter" | "collected" | "from_iter_counted" => gathered(call, call.given()?),
         _ => return None,
     };
     to.made(map, made);
     Some(())
+}
+
+fn gathered<S: Tested>(call: &Call<'_>, pairs: Vec<Pair>) -> Result<Map<S>, AllocError> {
+    match call.name {
+        "from_iter" => LiteMap::from_iter(call.alloc, pairs),
+        "collected" => pairs.into_iter().collect(call.alloc),
+        _ => LiteMap::from_iter_counted(call.alloc, pairs, &mut Count::new()),
+    }
 }
 
 // Replaces a map by what was made, or returns why it wasn't.
@@ -64,12 +71,12 @@ fn take_vec<S: StoreBulkMut<Key, Value>>(
     call: &Call<'_>,
     to: &mut Answer,
 ) -> Made {
-    let (alloc, count) = (call.alloc, &mut Count::new());
     let taken = match call.name {
-        "from_vec" => replace(map, LiteMap::from_vec(alloc, call.given()?)),
-        "from_vec_counted" => replace(map, LiteMap::from_vec_counted(alloc, call.given()?, count)),
-        "extend_from_vec" => map.extend_from_vec(alloc, call.given()?),
-        "extend_from_vec_counted" => map.extend_from_vec_counted(alloc, call.given()?, count),
+        "from_vec" | "from_vec_counted" | "extend_from_vec" | "extend_from_vec_counted" => put_vec(
+            map,
+            call,
+            call.given()?,
+        ),
         _ => return None,
     };
     match taken {
@@ -77,6 +84,20 @@ fn take_vec<S: StoreBulkMut<Key, Value>>(
         Err(refused) => to.word_and("refused", Pairs::of_slice(refused.back.as_slice())),
     }
     Some(())
+}
+
+fn put_vec<S: StoreBulkMut<Key, Value>>(
+    map: &mut Map<S>,
+    call: &Call<'_>,
+    pairs: Vec<Pair>,
+) -> Result<(), NoRoom<Vec<Pair>>> {
+    let (alloc, count) = (call.alloc, &mut Count::new());
+    match call.name {
+        "from_vec" => replace(map, LiteMap::from_vec(alloc, pairs)),
+        "from_vec_counted" => replace(map, LiteMap::from_vec_counted(alloc, pairs, count)),
+        "extend_from_vec" => map.extend_from_vec(alloc, pairs),
+        _ => map.extend_from_vec_counted(alloc, pairs, count),
+    }
 }
 
 // `insert` of each of the pairs, until one has no room. It tells how many were new.

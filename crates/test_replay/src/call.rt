@@ -87,7 +87,8 @@ impl<'w> Call<'w> {
         }
     }
 
-    fn word(&self, place: usize) -> Option<&str> {
+    /// A word.
+    pub fn word(&self, place: usize) -> Option<&str> {
         self.words.get(place).copied()
     }
 

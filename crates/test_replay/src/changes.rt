@@ -118,17 +118,22 @@ fn show_written<'a>(lent: Option<&'a mut Value>, number: u64, to: &mut Answer) {
 
 fn take<S: StoreMut<Key, Value>>(map: &mut Map<S>, call: &Call<'_>, to: &mut Answer) -> Made {
     match call.name {
-        "remove" => to.some(map.remove(&call.key(0)?)),
-        "remove_counted" => to.some(map.remove_counted(&call.key(0)?, &mut Count::new())),
-        "remove_by" => {
-            let key = call.key(0)?;
-            to.some(map.remove_by(|there| there.cmp(&key)));
-        }
-        "remove_entry" => to.taken(map.remove_entry(&call.key(0)?)),
         "pop_first" => to.taken(map.pop_first()),
         "pop_last" => to.taken(map.pop_last()),
         "clear" => to.done(map.clear()),
         "reserve" => to.room(map.reserve(call.size(0)?)),
+        _ => return remove(map, call, to),
+    }
+    Some(())
+}
+
+fn remove<S: StoreMut<Key, Value>>(map: &mut Map<S>, call: &Call<'_>, to: &mut Answer) -> Made {
+    let key = call.key(0)?;
+    match call.name {
+        "remove" => to.some(map.remove(&key)),
+        "remove_counted" => to.some(map.remove_counted(&key, &mut Count::new())),
+        "remove_by" => to.some(map.remove_by(|there| there.cmp(&key))),
+        "remove_entry" => to.taken(map.remove_entry(&key)),
         _ => return None,
     }
     Some(())
@@ -140,10 +145,10 @@ pub fn rename<S: KeepsMemory<Key, Value>>(
     call: &Call<'_>,
     to: &mut Answer,
 ) -> Made {
-    let count = &mut Count::new();
+    let (key, new_key) = (call.key(0)?, call.key(1)?);
     match call.name {
-        "rename" => to.show(map.rename(&call.key(0)?, call.key(1)?)),
-        "rename_counted" => to.show(map.rename_counted(&call.key(0)?, call.key(1)?, count)),
+        "rename" => to.show(map.rename(&key, new_key)),
+        "rename_counted" => to.show(map.rename_counted(&key, new_key, &mut Count::new())),
         _ => return None,
     }
     Some(())

@@ -70,14 +70,25 @@ pub fn compare<S: StoreBulkMut<Key, Value>>(
     call: &Call<'_>,
     to: &mut Answer,
 ) -> Made {
-    match call.name {
-        "eq" => to.show(*map == other(call)?),
-        "hash" => to.show(hash_of(map) == hash_of(&other::<S>(call)?)),
-        "cmp" => to.word(word_of(map.cmp(&other(call)?))),
-        "partial_cmp" => to.word(map.partial_cmp(&other(call)?).map_or("none", word_of)),
-        _ => return None,
+    if !matches!(call.name, "eq" | "hash" | "cmp" | "partial_cmp") {
+        return None;
     }
+    show_compared(map, &other(call)?, call.name, to);
     Some(())
+}
+
+fn show_compared<S: StoreBulkMut<Key, Value>>(
+    map: &Map<S>,
+    other: &Map<S>,
+    name: &str,
+    to: &mut Answer,
+) {
+    match name {
+        "eq" => to.show(*map == *other),
+        "hash" => to.show(hash_of(map) == hash_of(other)),
+        "cmp" => to.word(word_of(map.cmp(other))),
+        _ => to.word(map.partial_cmp(other).map_or("none", word_of)),
+    }
 }
 
 fn word_of(ordering: Ordering) -> &'static str {

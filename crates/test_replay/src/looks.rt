@@ -30,14 +30,14 @@ fn with_no_key<S: Store<Key, Value>>(map: &Map<S>, call: &Call<'_>, to: &mut Ans
 }
 
 fn by_key<S: Store<Key, Value>>(map: &Map<S>, call: &Call<'_>, to: &mut Answer) -> Made {
-    let count = &mut Count::new();
+    let (key, count) = (call.key(0)?, &mut Count::new());
     match call.name {
-        "get" => to.some(map.get(&call.key(0)?)),
-        "get_counted" => to.some(map.get_counted(&call.key(0)?, count)),
-        "get_key_value" => to.pair_or_none(map.get_key_value(&call.key(0)?)),
-        "contains_key" => to.show(map.contains_key(&call.key(0)?)),
-        "find_index" => to.index(map.find_index(&call.key(0)?)),
-        "find_index_counted" => to.index(map.find_index_counted(&call.key(0)?, count)),
+        "get" => to.some(map.get(&key)),
+        "get_counted" => to.some(map.get_counted(&key, count)),
+        "get_key_value" => to.pair_or_none(map.get_key_value(&key)),
+        "contains_key" => to.show(map.contains_key(&key)),
+        "find_index" => to.index(map.find_index(&key)),
+        "find_index_counted" => to.index(map.find_index_counted(&key, count)),
         _ => return None,
     }
     Some(())
@@ -64,8 +64,17 @@ fn by_closure<S: Store<Key, Value>>(map: &Map<S>, call: &Call<'_>, to: &mut Answ
 
 // Calls whose words are a bound of either end and their keys. `iter_range` gives its last pair, and then the others.
 fn bounds<S: Store<Key, Value>>(map: &Map<S>, call: &Call<'_>, to: &mut Answer) -> Made {
-    let (first, last) = (call.key(1), call.key(3));
-    let (from, till) = (call.bound(0, &first)?, call.bound(2, &last)?);
+    between(map, &call.key(1), &call.key(3), call, to)
+}
+
+fn between<S: Store<Key, Value>>(
+    map: &Map<S>,
+    first: &Option<Key>,
+    last: &Option<Key>,
+    call: &Call<'_>,
+    to: &mut Answer,
+) -> Made {
+    let (from, till) = (call.bound(0, first)?, call.bound(2, last)?);
     let places = match call.name {
         "index_range" => map.index_range(from, till),
         "index_range_counted" => map.index_range_counted(from, till, &mut Count::new()),

@@ -101,15 +101,10 @@ fn show_room(outcome: Result<(), NoRoom<Pair>>, to: &mut Answer) {
 // A call with an index and a pair.
 fn put_at<S: StoreMut<Key, Value>>(store: &mut S, call: &Call<'_>, to: &mut Answer) -> Made {
     let (index, len) = (call.size(0)?, store.lm_len());
+    let (key, value) = call.pair(1)?;
     match call.name {
-        "lm_insert" if index <= len => {
-            let (key, value) = call.pair(1)?;
-            show_room(store.lm_insert(index, key, value), to);
-        }
-        "lm_replace" if index < len => {
-            let (key, value) = call.pair(1)?;
-            to.taken(Some(store.lm_replace(index, key, value)));
-        }
+        "lm_insert" if index <= len => show_room(store.lm_insert(index, key, value), to),
+        "lm_replace" if index < len => to.taken(Some(store.lm_replace(index, key, value))),
         _ => return None,
     }
     Some(())
