@@ -1,6 +1,6 @@
 -- From what is at the index of an entry to what its calls promise.
 use Rattle.litemap.proofs.Common.{◌≡◌, ℕ, zero, suc, ◌<◌, List, [], ◌∷◌, length, Some, slice_get, slice_set, refl, sym, ap, ◌∙◌}
-use Rattle.litemap.proofs.Common.{Err, Ok, Result, arith, remove, ◌++◌, unwrap_or, Ordering, slice_get_within, option_map, option_map_or, above, at}
+use Rattle.litemap.proofs.Common.{Err, Ok, Result, arith, remove, unwrap_or, Ordering, slice_get_within, option_map, option_map_or, above, at}
 use Rattle.litemap.proofs.Common.{below, key_or, place, put, put_value, set_value, value_in, put_get, set_value-suc}
 use Rattle.std.proofs.Math.Seq.{set-append_seam}
 use Rattle.std.specs.Coded.{le_prop}
@@ -9,6 +9,7 @@ use Rattle.std.specs.declared.cmp.PartialEq as eq
 use Rattle.std.specs.declared.cmp.PartialOrd as partial
 use Rattle.litemap_store.specs.declared.store.Store as store
 use Rattle.litemap_store.specs.Splits.{IsMissingAt}
+use Rattle.litemap_store.proofs.Lists.Seams.{remove-seam}
 use Rattle.litemap.specs.declared.map.entry.OccupiedEntry.{OccupiedEntry}
 use Rattle.litemap.specs.declared.map.entry.Entry.{Entry}
 use Rattle.litemap_store.specs.declared.no_room.NoRoom.{NoRoom}
@@ -58,10 +59,6 @@ pub set_value-same : {K V : Type 0} (L : List (K × V)) (i : ℕ) (v : V) → va
 set_value-same [] i v h = refl
 set_value-same (p ∷ L) zero v h = ap (λ o. (p.0, unwrap_or o v) ∷ L) (sym h)
 set_value-same (p ∷ L) (suc i) v h = set_value-suc p L i v ∙ ap (λ M. p ∷ M) (set_value-same L i v h)
-
-remove-seam : {X : Type 0} (A : List X) (x : X) (B : List X) → remove (A ++ x ∷ B) (length A) ≡ A ++ B
-remove-seam [] x B = refl
-remove-seam (a ∷ A) x B = ap (λ M. a ∷ M) (remove-seam A x B)
 
 -- at the index of an absent key that was just put
 module _ {K V : Type 0} (cmp : K → K → Ordering) (L : List (K × V)) (k : K) (v : V) (i : ℕ) (m : IsMissingAt cmp L k i) where

@@ -21,13 +21,3 @@ module _ {K V : Type 0} (cmp : K → K → Ordering) where
   Rising-cut_range [] (suc a) (suc b) le h = h
   Rising-cut_range (p ∷ L) (suc a) (suc b) le h =
       (each-cut_range (λ q. cmp p.0 q.0 ≡ Less) L a b (omega (arith, le)) h.0, Rising-cut_range L a b (omega (arith, le)) h.1)
-
-  pub Rising-truncate : (L : List (K × V)) (n : ℕ) → Rising cmp L → Rising cmp (take n L)
-  Rising-truncate L zero h = tt
-  Rising-truncate [] (suc n) h = h
-  Rising-truncate (p ∷ L) (suc n) h = (each-take (λ q. cmp p.0 q.0 ≡ Less) L n h.0, Rising-truncate L n h.1)
-    where
-      each-take : (P : K × V → Type 0) (M : List (K × V)) (m : ℕ) → AllByRecursion P M → AllByRecursion P (take m M)
-      each-take P M zero h = tt
-      each-take P [] (suc m) h = h
-      each-take P (x ∷ M) (suc m) h = (h.0, each-take P M m h.1)

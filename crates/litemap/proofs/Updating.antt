@@ -1,6 +1,6 @@
 -- What lookups find after one key has changed: for the clauses `updates`.
 --     updates_put, places_put, updates_push      after a put;  finds_cut, places_cut      after a cut;  finds_write      after a write
-use Rattle.litemap.proofs.Common.{◌≡◌, ◌∙◌, ◌∷◌, ◌++◌, ◌+◌, ℕ, Bool, false, List, Option, None, Some, IsSome, Result, option_map, true, is_gt, is_lt, [], Ok}
+use Rattle.litemap.proofs.Common.{◌≡◌, ◌∙◌, ◌∷◌, ◌++◌, ◌+◌, ℕ, Bool, false, List, Option, None, Some, IsSome, Result, option_map, is_gt, is_lt, [], Ok}
 use Rattle.litemap.proofs.Common.{Err, arith, ap, append-nil, is_eq, is_some, length}
 use Rattle.litemap.proofs.Common.{length-append, option_or, refl, subst, sym, Ordering, Less, Equal, Greater, IsTotalOrder, key_or_equal}
 use Rattle.litemap.proofs.Common.{above, at, below, cut, index_of, key_or, place, put, value_at, write, value_at-cut, value_at-put, value_at-put_other}
@@ -10,13 +10,14 @@ use Rattle.std.specs.Option.{option_map_or}
 use Rattle.std.proofs.lemmas.List.Folds.{find-append}
 use Rattle.litemap_store.proofs.Names.{filter-append}
 use Rattle.litemap_store.proofs.Last.KeepLast.{filter_all, filter_none}
-use Rattle.litemap_store.proofs.Lists.Membership.{In-from_filter, each}
+use Rattle.litemap_store.proofs.Lists.Membership.{each}
 use Rattle.litemap_store.specs.Pairs.{AllBelow}
 use Rattle.litemap.proofs.MergedTests.{none_found}
 use Rattle.std.specs.Prelude.{if◌then◌else◌}
 use Rattle.std.proofs.lemmas.Cmp.{tied_back}
 use Rattle.std.proofs.lemmas.Map.Lookups.{exact_bytes}
 use Rattle.litemap_store.specs.Splits.{IsFoundAt, Splits}
+use Rattle.litemap_store.proofs.Callers.Lookups.{below-above, below-below}
 use Rattle.litemap_store.proofs.Callers.Tallies.{value_at_equal}
 use Rattle.litemap.specs.Updates.{Finds, Places, Updates}
 
@@ -79,24 +80,16 @@ module _ {K Q V : Type 0} (order : K → Q → Ordering) (q : Q) where
       by None e = let g : None ≡ w = sym (ap (option_map (λ x. x.1)) e) ∙ f in rw e (rw (← g) (ap Err p))
       by (Some x) e = let g : Some x.1 ≡ w = sym (ap (option_map (λ x. x.1)) e) ∙ f in rw e (rw (← g) (ap Ok p))
 
-  below-below : (L : List (K × V)) → below order (below order L q) q ≡ below order L q
-  below-below L = filter_all (λ (p : K × V). is_lt (order p.0 q)) (below order L q) (λ x i. (In-from_filter (λ (p : K × V). is_lt (order p.0 q)) L x i).1)
-
-  below-above : (L : List (K × V)) → below order (above order L q) q ≡ []
-  below-above L = filter_none (λ (p : K × V). is_lt (order p.0 q)) (above order L q)
-      (λ x i. elim (order x.0 q) as (λ c. is_gt c ≡ true → is_lt c ≡ false) [ Less ↦ λ h. absurd cc | Equal ↦ λ h. refl | Greater ↦ λ h. refl ]
-      (In-from_filter (λ (p : K × V). is_gt (order p.0 q)) L x i).1)
-
   place-cut : (L : List (K × V)) → place order (cut order L q) q ≡ place order L q
   place-cut L = ap length
-      (filter-append (λ p. is_lt (order p.0 q)) (below order L q) (above order L q) ∙ ap (λ M. M ++ below order (above order L q) q) (below-below L)
-      ∙ ap (λ M. below order L q ++ M) (below-above L) ∙ append-nil (below order L q))
+      (filter-append (λ p. is_lt (order p.0 q)) (below order L q) (above order L q) ∙ ap (λ M. M ++ below order (above order L q) q) (below-below order q L)
+      ∙ ap (λ M. below order L q ++ M) (below-above order q L) ∙ append-nil (below order L q))
 
   place-between : (L : List (K × V)) (x : K × V) → order x.0 q ≡ Equal → place order (below order L q ++ x ∷ above order L q) q ≡ place order L q
   place-between L x e =
-      let none : below order (x ∷ above order L q) q ≡ [] = rw e (below-above L) in
+      let none : below order (x ∷ above order L q) q ≡ [] = rw e (below-above order q L) in
       ap length (filter-append (λ p. is_lt (order p.0 q)) (below order L q) (x ∷ above order L q) ∙ ap (λ M. M ++ below order (x ∷ above order L q) q)
-      (below-below L) ∙ ap (λ M. below order L q ++ M) none ∙ append-nil (below order L q))
+      (below-below order q L) ∙ ap (λ M. below order L q ++ M) none ∙ append-nil (below order L q))
 
   pub finds_cut : (L : List (K × V)) (r : Result ℕ ℕ) → Splits order L q r → Finds order q None L (cut order L q)
   finds_cut L r s = record { found = value_at-cut order q L; others = others-cut L r s; exact = exact_bytes }

@@ -1,15 +1,14 @@
 -- From the pairs of a map to the keys of a set.
---     ascends, length-keys, find-keys, contains-keys      what the keys of ascending pairs are, and what is found among them
+--     length-keys, find-keys, contains-keys      how many keys there are, and what is found among them
 --     contains-put, length-put, keys-put      after a put
 --     GivesSome-from_more      what an iterator yields;  on_err, on_ok_both      what calls return
 --     has_last      the last pairs of a list;  union_of_merge      a merge
 --     any-kept, none-kept, keys-cut, length-cut      after a cut, which is a filter of the keys
-use Rattle.litemap_store.proofs.Names.{[], ℕ, ◌++◌, ◌+◌, ◌∙◌, ◌∷◌, ◌≡◌, AllByRecursion, ap, arith, Bool, cond, cons_option, Equal, false, filter, filter-append}
+use Rattle.litemap_store.proofs.Names.{[], ℕ, ◌++◌, ◌+◌, ◌∙◌, ◌∷◌, ◌≡◌, ap, arith, Bool, cond, cons_option, Equal, false, filter, filter-append}
 use Rattle.litemap_store.proofs.Names.{Greater, In, inl, inr, is_eq, is_gt, is_lt, is_some, IsTotalOrder, length, length-append, Less, List, None, not, Option}
 use Rattle.litemap_store.proofs.Names.{option_map, Ordering, refl, reverse, reverse-append, Some, suc, sym, tied_back, true}
 use Rattle.std.specs.Prelude.{◌||◌, ◌≤◌, Err, Ok, OnErr, OnOk, Result, find}
 use Rattle.std.specs.List.{list_any}
-use Rattle.std.specs.List.Sorted.{IsStrictlySortedBy}
 use Rattle.std.specs.Map.{keys_of}
 use Rattle.std.proofs.lemmas.List.{map-append}
 use Rattle.std.proofs.lemmas.List.Folds.{list_any-append}
@@ -27,17 +26,8 @@ use Rattle.std.specs.Option.{option_or}
 use Rattle.litemap_store.proofs.Last.FirstGiven.{GivesSome-from_some, Rises-none}
 use Rattle.litemap_store.proofs.Last.KeepLast.{filter_all}
 use Rattle.litemap_store.proofs.Search.Splitting.{at_in, parted}
+use Rattle.litemap.proofs.StdMaps.{sorted_from_Rising}
 use Rattle.litemap_set.specs.Sets.{HasLast, IsUnion, contains, key_at}
-
-module _ {K V : Type 0} (cmp : K → K → Ordering) where
-  below_keys : (k : K) (L : List (K × V)) → AllByRecursion (λ q. cmp k q.0 ≡ Less) L → AllByRecursion (λ y. cmp k y ≡ Less) (keys_of L)
-  below_keys k [] h = tt
-  below_keys k (p ∷ L) h = (h.0, below_keys k L h.1)
-
-  pub ascends : (L : List (K × V)) → Rising cmp L → IsStrictlySortedBy cmp (keys_of L)
-  unfolding IsStrictlySortedBy
-  ascends [] r = tt
-  ascends (p ∷ L) r = (below_keys p.0 L r.0, ascends L r.1)
 
 pub length-keys : {K V : Type 0} (L : List (K × V)) → length (keys_of L) ≡ length L
 length-keys [] = refl
@@ -197,7 +187,7 @@ module _ {K V : Type 0} {cmp : K → K → Ordering} (o : IsTotalOrder cmp) wher
       | inl h ↦ inl (in_keys k A h.0 h.1)
       | inr h ↦ inr (in_keys k B h.0.0 h.0.1, sym (contains-keys cmp k A) ∙ ap is_some (at_none cmp o A k h.1))
     ];
-    ascending = ascends cmp M merge.rising;
+    ascending = sorted_from_Rising cmp M merge.rising;
   }
     where
       either : (b a : Option V) → is_some (option_or b a) ≡ (is_some a || is_some b)

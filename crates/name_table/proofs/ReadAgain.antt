@@ -1,7 +1,7 @@
 -- A table is read as what was written.
 use Rattle.std.proofs.Common.{◌≡◌, ◌↔◌, ℕ, List, [], ◌∷◌, ◌++◌, length, map, sym, ap, ◌∙◌, append-nil, nat_cmp, Bor}
-use Rattle.std.specs.Cmp.{IsTotalOrder}
-use Rattle.std.specs.Cmp.Lexicographic.{slice_cmp, on_texts}
+use Rattle.std.specs.Cmp.Lexicographic.{slice_cmp}
+use Rattle.litemap.proofs.Texts.{by_bytes_total}
 use Rattle.litemap.specs.ByBytes.{by_bytes}
 use Rattle.litemap_store.proofs.Last.Pairs.{Last-rising, Last-unique}
 use Rattle.litemap_store.specs.Pairs.{BelowAll, Rising}
@@ -20,9 +20,6 @@ shown_rise (p ∷ pairs) =
     let b = below_shown p.0 pairs in
     let e = shown_rise pairs in
     ((λ r. (b.0 r.0, e.0 r.1)), λ r. (b.1 r.0, e.1 r.1))
-
-pub by_bytes_total : IsTotalOrder by_bytes
-by_bytes_total = on_texts (λ (a : Bor (List ℕ)). a.now)
 
 pub read_again : (bytes : List ℕ) (pairs : List (Bor (List ℕ) × Bor (List ℕ))) → IsTable bytes (map shown pairs) → Rising by_bytes pairs
     → IsReadAgain bytes pairs

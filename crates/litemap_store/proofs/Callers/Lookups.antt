@@ -33,6 +33,14 @@ module _ {K Q V : Type 0} (order : K → Q → Ordering) (q : Q) (keep : K → B
 
 -- ---- the query itself
 module _ {K Q V : Type 0} (order : K → Q → Ordering) (q : Q) where
+  pub below-below : (L : List (K × V)) → below order (below order L q) q ≡ below order L q
+  below-below L = filter_all (λ (p : K × V). is_lt (order p.0 q)) (below order L q) (λ x i. (In-from_filter (λ (p : K × V). is_lt (order p.0 q)) L x i).1)
+
+  pub below-above : (L : List (K × V)) → below order (above order L q) q ≡ []
+  below-above L = filter_none (λ (p : K × V). is_lt (order p.0 q)) (above order L q)
+      (λ x i. elim (order x.0 q) as (λ c. is_gt c ≡ true → is_lt c ≡ false) [ Less ↦ λ h. absurd cc | Equal ↦ λ h. refl | Greater ↦ λ h. refl ]
+      (In-from_filter (λ (p : K × V). is_gt (order p.0 q)) L x i).1)
+
   at-below : (L : List (K × V)) → at order (below order L q) q ≡ None
   at-below = at-filter_gone order q (λ x. is_lt (order x q)) (λ x e. ap is_lt e)
 
@@ -154,21 +162,13 @@ module _ {K V : Type 0} {cmp : K → K → Ordering} (o : IsTotalOrder cmp) wher
     pub value_at-put : (L : List (K × V)) (v : V) → value_at cmp (put cmp L k v) k ≡ Some v
     value_at-put L v = ap (option_map (λ p. p.1)) (at-put L v)
 
-    below-below : (L : List (K × V)) → below cmp (below cmp L k) k ≡ below cmp L k
-    below-below L = filter_all (λ (p : K × V). is_lt (cmp p.0 k)) (below cmp L k) (λ x i. (In-from_filter (λ (p : K × V). is_lt (cmp p.0 k)) L x i).1)
-
-    below-above : (L : List (K × V)) → below cmp (above cmp L k) k ≡ []
-    below-above L = filter_none (λ (p : K × V). is_lt (cmp p.0 k)) (above cmp L k)
-        (λ x i. elim (cmp x.0 k) as (λ c. is_gt c ≡ true → is_lt c ≡ false) [ Less ↦ λ h. absurd cc | Equal ↦ λ h. refl | Greater ↦ λ h. refl ]
-        (In-from_filter (λ (p : K × V). is_gt (cmp p.0 k)) L x i).1)
-
     -- as many keys are smaller as before
     pub place-put : (L : List (K × V)) (v : V) → place cmp (put cmp L k v) k ≡ place cmp L k
     place-put L v =
         let x : K × V = (key_or (at cmp L k) k, v) in
-        let none : below cmp (x ∷ above cmp L k) k ≡ [] = rw (key_or_equal o k L) (below-above L) in
+        let none : below cmp (x ∷ above cmp L k) k ≡ [] = rw (key_or_equal o k L) (below-above cmp k L) in
         let whole : below cmp (put cmp L k v) k ≡ below cmp L k =
-        filter-append (λ p. is_lt (cmp p.0 k)) (below cmp L k) (x ∷ above cmp L k) ∙ ap (λ M. M ++ below cmp (x ∷ above cmp L k) k) (below-below L)
+        filter-append (λ p. is_lt (cmp p.0 k)) (below cmp L k) (x ∷ above cmp L k) ∙ ap (λ M. M ++ below cmp (x ∷ above cmp L k) k) (below-below cmp k L)
         ∙ ap (λ M. below cmp L k ++ M) none ∙ append-nil (below cmp L k) in
         ap length whole
 

@@ -8,7 +8,7 @@ use Rattle.litemap_store.proofs.Lists.Places.{AllPairs-from_Rising, Rising-from_
 use Rattle.litemap_store.proofs.Search.Splitting.{less_from_is_lt}
 
 module _ {K V : Type 0} (cmp : K → K → Ordering) where
-  Rising-take : (L : List (K × V)) (n : ℕ) → Rising cmp L → Rising cmp (take n L)
+  pub Rising-take : (L : List (K × V)) (n : ℕ) → Rising cmp L → Rising cmp (take n L)
   Rising-take L n r = Rising-from_AllPairs cmp (take n L) (λ i j d lt h.
       let w : j < min n (length L) = rw length-take at h in
       rw (get_or-take n L i d (omega arith), get_or-take n L j d (omega arith)) (AllPairs-from_Rising cmp L r i j d lt (omega arith)))
