@@ -11,7 +11,7 @@ use Rattle.std.specs.Map.Iter.{TakesFirst}
 use Rattle.std.specs.Ordering.{match_ordering}
 use Rattle.std.proofs.lemmas.Cmp.{tied_itself}
 use Rattle.litemap_store.proofs.Lists.Membership.{each}
-use Rattle.litemap_store.proofs.Search.Splitting.{each-weaker, greater_back, less_back}
+use Rattle.litemap_store.proofs.Search.Splitting.{each-weaker, equal_from_is_eq, greater_back, less_back}
 use Rattle.litemap_set.specs.Sets.{IsDisjoint, IsSubset, contains}
 use Rattle.litemap_set.specs.Walks.{all_if, cons_if, walk}
 
@@ -93,12 +93,7 @@ module _ {K : Type 0} {cmp : K → K → Ordering} (o : IsTotalOrder cmp) where
       -- a key equal to x is in no list above x
       clear : (x : K) (L : List K) → Under x L → same x ≡ true → has L ≡ false
       clear x [] u e = refl
-      clear x (y ∷ L) u e = ap (λ b. b || has L) (ap is_eq (less_back o q y (sym (o.congr x q y (equal (cmp x q) e)) ∙ u.0))) ∙ clear x L u.1 e
-        where
-          equal : (r : Ordering) → is_eq r ≡ true → r ≡ Equal
-          equal Less h = absurd cc
-          equal Equal h = refl
-          equal Greater h = absurd cc
+      clear x (y ∷ L) u e = ap (λ b. b || has L) (ap is_eq (less_back o q y (sym (o.congr x q y (equal_from_is_eq (cmp x q) e)) ∙ u.0))) ∙ clear x L u.1 e
 
       -- whether a key is yielded that is in the first list if a is true, and in the second if b is
       abbrev chosen : Bool → Bool → Bool
