@@ -1,8 +1,8 @@
 //! A store of one's own: a vector of pairs that takes no more than a number of them, as a server wants it for headers that
 //! a stranger sends.
 //!
-//! A struct, what a contract sees of it, and three traits: a store whose maps are made, looked up and changed has no more. A fourth
-//! one is for `rename`.
+//! A struct, what a contract sees of it, and three traits: a store whose maps are made, looked up and changed has no more. A
+//! fourth one is for `rename`.
 #![tactic(auto)]
 
 ghost use Rattle.std.specs.Prelude.{⊤, refl};

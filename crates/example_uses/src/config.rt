@@ -1,7 +1,8 @@
 //! A configuration: settings by their names, where a user's go over the defaults.
 //! Each is a list in which a name may stand more than once: its last value counts. What a user sets wins, and no default is
 //! lost, as the contracts say.
-ghost use Rattle.std.specs.Prelude.{◌≡◌, None, Some, IfErr, IfOk, IfSome, IsNone, IsSome, OnOk, OnErr, if◌then◌else◌, is_some, reverse};
+ghost use Rattle.std.specs.Prelude.{◌≡◌, None, Some, IfErr, IfOk, IfSome, IsNone, IsSome, OnOk, OnErr, if◌then◌else◌};
+ghost use Rattle.std.specs.Prelude.{is_some, reverse};
 ghost use Rattle.std.specs.Option.{option_or};
 ghost use Rattle.std.specs.String.{string_cmp};
 ghost use Rattle.litemap_store.specs.Pairs.{at, value_at};

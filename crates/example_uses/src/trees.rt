@@ -1,5 +1,5 @@
-//! Callers with bodies and clauses as for std's `BTreeMap`, most of them its own tests': only the two `use` lines differ from such
-//! code.
+//! Callers with bodies and clauses as for std's `BTreeMap`, most of them its own tests': only the two `use` lines differ from
+//! such code.
 ghost use Rattle.std.specs.Prelude.{◌≡◌, ◌≢◌, ◌+◌, ◌≤◌, ◌==◌, IfOk, IsTrue, MatchResult, None, OnOk, Some, if◌then◌else◌};
 ghost use Rattle.std.specs.Prelude.{codes, count_by, is_some, option_map, unwrap_or};
 ghost use Rattle.std.specs.Ordering.{nat_cmp};

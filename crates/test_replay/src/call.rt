@@ -87,7 +87,7 @@ impl<'w> Call<'w> {
         }
     }
 
-    /// A word.
+    /// The word at a place, if there are so many.
     pub fn word(&self, place: usize) -> Option<&str> {
         self.words.get(place).copied()
     }
