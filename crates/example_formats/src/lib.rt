@@ -1,4 +1,4 @@
-//! Callers that read and write maps in types of their own, as users would write them. `test_formats` runs them.
+//! Callers that read and write maps in types of their own, as users would write them. `test_rows` runs them.
 #![tactic(auto)]
 
 pub mod codes;

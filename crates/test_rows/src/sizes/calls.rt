@@ -1,8 +1,8 @@
 //! Calls that change a map.
 ghost use Rattle.std.specs.Iterator.{at_most};
 
-use crate::made::Made;
-use crate::sums;
+use crate::sizes::made::Made;
+use crate::sizes::{looks, sums};
 use litemap::store::{KeepsMemory, Store, StoreBulkMut, StoreFromIterable, StoreIntoIterator};
 use litemap::{Entry, LiteMap};
 use std::alloc::{AllocError, Global};
@@ -83,7 +83,6 @@ where
 {
     *map = match call.name {
         "from_vec" => LiteMap::from_vec(call.alloc, given)?,
-        "from_iter" => LiteMap::from_iter(call.alloc, given)?,
         _ => LiteMap::from_iter(call.alloc, with_promise(call, given))?,
     };
     Ok(0)
@@ -96,9 +95,8 @@ pub fn extend<K: Made, V: Made, S: StoreBulkMut<K, V>>(
     given: Given<K, V>,
 ) -> Number {
     match call.name {
-        "extend" => map.extend(call.alloc, given)?,
-        "promised" => map.extend(call.alloc, with_promise(call, given))?,
-        _ => map.extend_from_vec(call.alloc, given)?,
+        "extend_from_vec" => map.extend_from_vec(call.alloc, given)?,
+        _ => map.extend(call.alloc, with_promise(call, given))?,
     }
     Ok(0)
 }
@@ -148,66 +146,66 @@ pub fn reserve<K: Made, V: Made, S: StoreBulkMut<K, V>>(
     Ok(0)
 }
 
-/// A call of each of the given pairs: how many it placed or removed.
+/// A call of each of the given pairs: the sum of what they tell, which is 1 for a pair that is placed or removed.
 pub fn each<K, V, S>(call: &Call<'_>, map: &mut LiteMap<K, V, S>, given: Given<K, V>) -> Number
 where
     K: Made,
     V: Made,
     S: StoreBulkMut<K, V>,
 {
-    let mut times = 0u64;
+    let mut sum = 0u64;
     for (key, value) in given {
-        times = times.wrapping_add(u64::from(is_done(call, map, key, value)?));
+        sum = sum.wrapping_add(of_pair(call, map, key, value)?);
     }
-    Ok(times)
+    Ok(sum)
 }
 
-// A call of one pair: whether it is placed or removed.
-fn is_done<K: Made, V: Made, S: StoreBulkMut<K, V>>(
+// A call of one pair.
+fn of_pair<K: Made, V: Made, S: StoreBulkMut<K, V>>(
     call: &Call<'_>,
     map: &mut LiteMap<K, V, S>,
     key: K,
     value: V,
-) -> Result<bool, AllocError> {
+) -> Number {
     match call.name {
-        "insert" => Ok(map.insert(key, value)?.is_none()),
-        "try_append" => Ok(map.try_append(key, value)?.is_none()),
-        "remove" => Ok(map.remove(&key).is_some()),
-        "entry_remove" => Ok(is_removed(map, key)),
-        _ => is_placed(map, key, value),
+        "insert" => Ok(u64::from(map.insert(key, value)?.is_none())),
+        "try_append" => Ok(u64::from(map.try_append(key, value)?.is_none())),
+        "remove" => Ok(u64::from(map.remove(&key).is_some())),
+        "entry" | "entry_get" | "entry_remove" => at_entry(call, map, key, value),
+        _ => Ok(looks::look(call.name, map, &key) as u64),
     }
 }
 
-// Whether the pair of a key is there, which its entry removes.
-fn is_removed<K: Made, V: Made, S: StoreBulkMut<K, V>>(map: &mut LiteMap<K, V, S>, key: K) -> bool {
-    match map.entry(key) {
-        Entry::Occupied(entry) => {
-            let _ = entry.remove();
-            true
-        }
-        Entry::Vacant(_entry) => false,
-    }
-}
-
-// Whether the entry of a key is vacant, which places the pair.
-fn is_placed<K: Made, V: Made, S: StoreBulkMut<K, V>>(
+// A call of the entry of a key.
+fn at_entry<K: Made, V: Made, S: StoreBulkMut<K, V>>(
+    call: &Call<'_>,
     map: &mut LiteMap<K, V, S>,
     key: K,
     value: V,
-) -> Result<bool, AllocError> {
-    match map.entry(key) {
-        Entry::Occupied(_entry) => Ok(false),
-        Entry::Vacant(entry) => {
-            entry.insert(value)?;
-            Ok(true)
+) -> Number {
+    match (map.entry(key), call.name) {
+        (Entry::Occupied(entry), "entry_get") => Ok(entry.get().number()),
+        (Entry::Occupied(entry), "entry_remove") => {
+            let _ = entry.remove();
+            Ok(1)
         }
+        (Entry::Vacant(entry), "entry") => {
+            entry.insert(value)?;
+            Ok(1)
+        }
+        _ => Ok(0),
     }
 }
 
+// The given pairs, with a promise of as many as there are, or as the call says.
 fn with_promise<K: Drop, V: Drop>(call: &Call<'_>, given: Given<K, V>) -> Promised<K, V> {
+    let promised = match call.name {
+        "from_promised" | "promised" => call.step,
+        _ => call.count,
+    };
     Promised {
         rest: given.into_iter(),
-        promised: call.step as usize,
+        promised: promised as usize,
     }
 }
 

@@ -1,8 +1,4 @@
-"""Makes the input of the program `test_sizes`, and the output that it must write: its files stdin and stdout.
-
-The output comes from plain lists of numbers. bin/data stores a sample of the lines, and bin/requests runs all of them, and counts
-the requests for memory of each.
-"""
+"""The rows of maps over pairs of other sizes, which the program makes in `sizes`, each with its output from plain lists of numbers."""
 import bisect
 import functools
 import itertools
@@ -104,7 +100,7 @@ def looked_up(has_values, length):
 
 @functools.cache
 def answer(has_values, call, length, first, count, step):
-    """The output of a line."""
+    """The output of a row."""
     given = [first + place * step for place in range(count)]
     if call in LOOKS:
         made, total = looked_up(has_values, length)
@@ -115,7 +111,7 @@ def answer(has_values, call, length, first, count, step):
 
 
 def line(kind, call, length, first=0, count=0, step=0):
-    """A line, and its output."""
+    """A row, and its output."""
     return f"{kind} {call} {length} {first} {count} {step % 2**32}", answer(not kind.startswith("set"), call, length, first, count, step)
 
 
@@ -164,23 +160,22 @@ def calls(kind):
 TIMED = "".join(f"small {store} {call} 500000 {BEFORE} 100001 10\n" for store in ("vec", "columns") for call in LOOKS)
 
 
-def written(rows):
-    """The files of these rows, by their names."""
-    return {"stdin": "".join(f"{row}\n" for row, _ in rows), "stdout": "".join(f"{told}\n" for _, told in rows)}
+@functools.cache
+def rows():
+    """All other rows, with the output of each."""
+    return [line(kind, *call) for kind in KINDS for call in calls(kind)]
 
 
-def files():
-    """All lines."""
-    timed = [row.split(" ") for row in TIMED.splitlines()]
-    lines = [line(kind, *call) for kind in KINDS for call in calls(kind)]
-    return written([*lines, *(line(" ".join(row[:2]), row[2], *map(int, row[3:])) for row in timed)])
+def timed():
+    """The rows whose time is bounded, with the output of each."""
+    return [line(f"{kind} {store}", call, *map(int, words)) for kind, store, call, *words in map(str.split, TIMED.splitlines())]
 
 
-def sample(files):
-    """What is stored: of each call over each kind of pairs and store the first line of a map of twenty pairs or more."""
-    rows = {}
-    for row, told in zip(files["stdin"].splitlines(), files["stdout"].splitlines()):
+def sample():
+    """What is stored: of each call over each kind of pairs and store the first row of a map of twenty pairs or more."""
+    found = {}
+    for row, told in rows():
         *words, length, _, _, _ = row.split(" ")
         if int(length) >= 20:
-            rows.setdefault(" ".join(words), (row, told))
-    return written(rows.values())
+            found.setdefault(" ".join(words), (row, told))
+    return found.values()

@@ -5,7 +5,7 @@ nothing with the crates. By the first word of a row `ANSWERS` has the function t
 """
 from itertools import product
 
-# The program's own names, in crates/test_formats/src/table_rows.rt.
+# The program's own names, in crates/test_rows/src/table_rows.rt.
 OWN = {"de": "German", "en": "own English", "zu": "Zulu"}
 
 

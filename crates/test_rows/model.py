@@ -1,4 +1,4 @@
-"""Makes the input of the program `test_formats`, and the output that it must write: its files stdin and stdout.
+"""Makes the input of the program `test_rows`, and the output that it must write: its files stdin and stdout.
 
 They begin with the rows that have a title, which are written by hand: those of JSON in both files, those of tables in stdin alone.
 Each kind of the other rows is made, with the output, by a file of its own here; no output comes from the program itself. bin/data
@@ -12,6 +12,7 @@ import runpy
 
 FOLDER = pathlib.Path(__file__).resolve().parent
 KINDS = {name: runpy.run_path(str(FOLDER / f"{name}_rows.py")) for name in ("json", "serde", "table")}
+SIZES = runpy.run_path(str(FOLDER / "size_rows.py"))
 # A row of many lookups, and long maps that are read and written, of so many pairs: bin/requests bounds their time.
 MANY = 200000
 OBJECT = "{" + ",".join(f'"{10**6 + number}":{number}' for number in range(MANY)) + "}"
@@ -47,12 +48,13 @@ def others():
         yield from ((f"{name} {row}", answer) for row, answer in kind["rows"](rows))
 
 
-TIMED = written(LONG)["stdin"]
+TIMED = written(LONG)["stdin"] + SIZES["TIMED"]
 
 
 def files():
     """All rows, without titles."""
-    return written([*(row for row in titled() if not row[0].startswith("# ")), *others(), *LONG])
+    by_hand = (row for row in titled() if not row[0].startswith("# "))
+    return written([*by_hand, *others(), *SIZES["rows"](), *LONG, *SIZES["timed"]()])
 
 
 # A longer row is stored only as the first of its kind.
@@ -61,7 +63,7 @@ MOST_STORED = 2500
 
 def sample(files):
     """What is stored: the rows that have a title, and a sample of the others."""
-    return written([*titled(), (SAMPLE,) * 2, *sampled(others())])
+    return written([*titled(), (SAMPLE,) * 2, *sampled(others()), *SIZES["sample"]()])
 
 
 def sampled(rows):

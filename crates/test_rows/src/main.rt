@@ -1,5 +1,5 @@
-//! Maps that are read and written, as rows: each line of standard input is one of four kinds, by its first word, and has a line
-//! of standard output. Models in Python (`model.py`) make the input and tell the output.
+//! Maps that are read and written, and calls of maps, as rows: each line of standard input is one of five kinds, by its first
+//! word, and has a line of standard output. Models in Python (`model.py`) make the input and tell the output.
 //!
 //! - `json TYPES TEXT`: what the map that a JSON text is read as is written as, or why it was not read or not written. `TYPES`
 //!   names the types of the keys and of the items (`json_rows`). Each text but those of `limits`, `names`, `overlay`, `told` and
@@ -9,6 +9,7 @@
 //! - `serde WHAT TEXT`: what is written of what a JSON text is read as through serde, or why not (`serde_rows`). For TOML and CSV
 //!   `TEXT` is the JSON string of one.
 //! - `table ..`: what is read, found or written of the bytes of a name table or an index of names (`table_rows`).
+//! - `small ..`, `set ..`, `wide ..`: a call of a map over pairs of other sizes than those of `test_replay` (`sizes`).
 //! - `# ..`: the title of the lines below it, itself.
 //!
 //! If memory runs out, the output of a line is `out of memory`, or as ever if it can do without. Requests of three sizes tell a
@@ -56,6 +57,7 @@ mod indexes;
 mod json_rows;
 mod kinds;
 mod serde_rows;
+mod sizes;
 mod sweeps;
 mod table_rows;
 mod tables;
@@ -103,6 +105,6 @@ fn answer_line(alloc: Global, line: &str) -> Output {
         Some(("json", row)) => json_rows::answer(alloc, row),
         Some(("serde", row)) => serde_rows::answer(alloc, row),
         Some(("#", _title)) => String::from_str(alloc, line),
-        _ => String::from_str(alloc, "bad line"),
+        _ => sizes::answer(alloc, line),
     }
 }

@@ -1,7 +1,7 @@
 //! Calls that make another map of the pairs of a map.
-use crate::calls::Call;
-use crate::made::Made;
-use crate::sums;
+use crate::sizes::calls::Call;
+use crate::sizes::made::Made;
+use crate::sizes::sums;
 use litemap::store::{Store, StoreBulkMut};
 use litemap::{LiteMap, VecMap};
 use litemap_columns::ColumnStore;

@@ -1,5 +1,5 @@
 //! Sums of pairs, which tell what a map has and in which order.
-use crate::made::Made;
+use crate::sizes::made::Made;
 use litemap::LiteMap;
 use litemap::store::Store;
 
