@@ -57,7 +57,7 @@ pub fn count_words<K: Ord + Copy>(
 pub type Names = VecMap<String, u32>;
 
 /// Counts a name once more. All others stay. With all lemmas of the root's set the search reaches its limit here.
-#[tactic(auto, using(litemap::proofs::Texts::text_entries))]
+#[tactic(auto, using(litemap::proofs::Texts::texts))]
 pub fn count_name(names: &mut Names, name: String) -> Result<(), AllocError>
     requires { unwrap_or (value_at by_string names.old.pairs (string_bytes name)) 0 < u32.MAX }
     ensures counted { OnOk result (value_at by_string names.new.pairs (string_bytes name)

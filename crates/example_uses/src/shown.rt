@@ -162,6 +162,18 @@ fn show_renamed(rt: &impl Print, alloc: Global) -> io::Result<()> {
         let there = texts::rename(&mut map, old, new.to_string(alloc)?);
         println!(rt; "{old} is {new}: {there}, {map:?}")?;
     }
+    show_moved(rt, alloc)
+}
+
+// Numbers that move to a free name, one of them from a name that isn't there.
+fn show_moved(rt: &impl Print, alloc: Global) -> io::Result<()> {
+    let mut map = two_numbers(alloc)?;
+    for (from, to) in [("one", "three"), ("four", "five")] {
+        if !map.contains_key(to) {
+            texts::move_number(&mut map, alloc, from, to)?;
+        }
+        println!(rt; "{from} moved to {to}: {map:?}")?;
+    }
     Ok(())
 }
 
@@ -277,7 +289,15 @@ fn show_sums(rt: &impl Print, alloc: Global) -> io::Result<()> {
     let mut sum: Named = map_of(alloc, &[("a", 10), ("c", 30)])?;
     let others = map_of(alloc, &[("b", 5), ("c", 7), ("a", u64::MAX)])?;
     sums::add_capped(&mut sum, alloc, others)?;
-    println!(rt; "sum {sum:?}")
+    println!(rt; "sum {sum:?}")?;
+    let settled = sums::settle(&mut sum, "b");
+    for name in ["c", "c", "d"] {
+        println!(rt;
+            "30 taken from {name}: {}",
+            sums::take_from(&mut sum, name, 30)
+        )?;
+    }
+    println!(rt; "settled {settled:?}, left {sum:?}")
 }
 
 // The totals of a map of two pairs, over a vector, a slice of it, and two columns that it moves to.

@@ -1,5 +1,7 @@
 //! Sparse vectors: numbers at indices, 0 where there is none. And numbers at names.
-ghost use Rattle.std.specs.Prelude.{◌≡◌, ◌+◌, ◌≤◌, OnOk, OnErr, min};
+ghost use Rattle.std.specs.Prelude.{◌≡◌, ◌+◌, ◌≤◌, IsTrue, OnOk, OnErr, min, sum, unwrap_or};
+ghost use Rattle.std.specs.Bool.{IsFalse};
+ghost use Rattle.std.specs.Map.{values_of};
 ghost use Rattle.litemap_store.specs.Pairs.{at, value_at};
 ghost use Rattle.litemap_store.specs.Queries.{by_string};
 ghost use Rattle.litemap.specs.Combined.{found_with};
@@ -33,6 +35,30 @@ pub fn add(sum: &mut Vector, alloc: Global, other: Vector) -> Result<(), NoRoom<
 
 /// Numbers by names.
 pub type Named = VecMap<String, u64>;
+
+/// Removes the number at a name. The sum of all is less by that.
+pub fn settle(named: &mut Named, name: &str) -> Option<u64>
+    ensures { sum (values_of named.new.pairs) + unwrap_or result 0 ≡ sum (values_of named.old.pairs) }
+{
+    named.remove(name)
+}
+
+/// Takes from the number at a name, and returns whether it was that great. The sum of all is less by that.
+// By fewer lemmas, among them that the value that is there, written again, changes nothing.
+#[tactic(auto, using(litemap::proofs::Texts::texts, litemap::proofs::Sums::sums))]
+pub fn take_from(named: &mut Named, name: &str, number: u64) -> bool
+    ensures taken { IsTrue result → sum (values_of named.new.pairs) + number ≡ sum (values_of named.old.pairs) }
+    ensures unchanged { IsFalse result → named.new.pairs ≡ named.old.pairs }
+{
+    let Some(there) = named.get_mut(name) else {
+        return false;
+    };
+    if *there < number {
+        return false;
+    }
+    *there -= number;
+    true
+}
 
 /// Adds the numbers of other names. A sum that is too great becomes the greatest number.
 // By this lemma alone: with all of the root's set the search doesn't prove `added`.

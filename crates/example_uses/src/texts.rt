@@ -1,5 +1,5 @@
 //! Maps looked up by what can stand for a key: strings and bytes that are borrowed, and keys.
-ghost use Rattle.std.specs.Prelude.{◌≡◌, ◌≢◌, ◌==◌, IsTrue, None, OnOk, Some, is_some, string_bytes};
+ghost use Rattle.std.specs.Prelude.{◌≡◌, ◌≢◌, ◌==◌, IsTrue, None, OnErr, OnOk, Some, is_some, length, string_bytes};
 ghost use Rattle.std.specs.Bool.{IsFalse};
 ghost use Rattle.std.specs.List.{before_first};
 ghost use Rattle.std.specs.Option.{option_or};
@@ -65,6 +65,27 @@ pub fn rename(map: &mut Numbers, old: &str, new: String) -> bool
     ensures unchanged { IsFalse result → map.new.pairs ≡ map.old.pairs }
 {
     map.rename(old, new)
+}
+
+/// Moves the number at a name to a name that is free, by two changes. If memory runs out, nothing changes.
+// By fewer lemmas: with all of the root's set the search reaches its limit.
+#[tactic(auto, using(litemap::proofs::Texts::texts))]
+pub fn move_number(map: &mut Numbers, alloc: Global, from: &str, to: &str) -> Result<(), AllocError>
+    requires { value_at by_string map.old.pairs to.now ≡ None }
+    ensures moved { OnOk result
+        (value_at by_string map.new.pairs to.now ≡ value_at by_string map.old.pairs from.now) }
+    ensures gone { OnOk result (value_at by_string map.new.pairs from.now ≡ None) }
+    ensures others { OnOk result ((other : _) → other ≢ from.now → other ≢ to.now
+        → value_at by_string map.new.pairs other ≡ value_at by_string map.old.pairs other) }
+    ensures len { OnOk result (length map.new.pairs ≡ length map.old.pairs) }
+    ensures unchanged { OnErr result (map.new.pairs ≡ map.old.pairs) }
+{
+    let Some(number) = map.get(from).copied() else {
+        return Ok(());
+    };
+    map.insert(String::from_str(alloc, to)?, number)?;
+    map.remove(from);
+    Ok(())
 }
 
 /// Writes the number at a name, if the name is there. All others stay.

@@ -3,7 +3,7 @@
 --     found_below_sum      a value that is found is at most the sum
 use Rattle.litemap.proofs.Common.{◌≡◌, ◌∙◌, ◌∷◌, ◌+◌, ◌++◌, ◌≤◌, ℕ, [], List, Option, None, Some, String, true, false, ap, arith, cond, is_eq, option_map, refl}
 use Rattle.litemap.proofs.Common.{sym, unwrap_or}
-use Rattle.litemap.proofs.Common.{Ordering, IsTotalOrder, Rising, above, at, below, cut, key_or, put, value_at, write, nat_list_cmp_total, string_bytes}
+use Rattle.litemap.proofs.Common.{Ordering, IsTotalOrder, Rising, above, at, below, cut, key_or, put, value_at, write}
 use Rattle.litemap.proofs.Common.{string_cmp}
 use Rattle.std.proofs.Common.{sum}
 use Rattle.std.specs.Map.{values_of}
@@ -12,6 +12,7 @@ use Rattle.std.proofs.lemmas.List.Sums.{sum_by-cons}
 use Rattle.litemap_store.specs.Queries.{OneSide, by_string, key_one_side}
 use Rattle.litemap_store.proofs.Names.{cons_option}
 use Rattle.litemap_store.proofs.Search.Splitting.{parted}
+use Rattle.litemap.proofs.Texts.{text_one_side}
 
 module _ {K : Type 0} where
   abbrev total : List (K × ℕ) → ℕ
@@ -77,9 +78,6 @@ module _ {K : Type 0} where
     key_write_sum L M k v w o r e f = rw e (total-write (key_one_side o) L k r v w f)
 
 module _ {Z : Type 0} where
-  text_one_side : OneSide (string_cmp {Z = Z}) by_string
-  text_one_side t x y = key_one_side nat_list_cmp_total t (string_bytes x) (string_bytes y)
-
   pub text_cut_sum : (L M : List (String Z × ℕ)) (t : List ℕ) → Rising string_cmp L → M ≡ cut by_string L t
       → sum (values_of M) + unwrap_or (value_at by_string L t) 0 ≡ sum (values_of L)
   text_cut_sum L M t r e = rw e (total-cut text_one_side L t r)

@@ -1,14 +1,14 @@
 -- Strings and bytes as keys: what lookups find after a put, a write, a cut and a merge, and what clones of strings are. A
 -- caller's function takes these by an attribute, as `#[tactic(auto, using(litemap::proofs::Texts::string_keys))]`.
 --     string_keys      for `String` keys, looked up by keys;  text_keys      the same, looked up by strings
---     text_entries      those on puts and cuts alone, for a chain of `entry`
+--     texts      fewer for lookups by strings, with which the search gets further: for several changes in one body, or an `entry`
 --     byte_keys      for `Vec<u8>` keys, looked up by bytes;  str_keys      for `&str` and `&[u8]` keys
 --     key_is_text      a `String` key finds what its string finds;  by_bytes_total      the law of the order of `&str` and `&[u8]` keys, for counts
 --     text_combined      what `extend_with` leaves, looked up by strings
 --     text_clones      the condition of `try_clone` and of the conversions, for `String` keys
-use Rattle.litemap.proofs.Common.{◌≡◌, ◌≢◌, ◌∷◌, ◌++◌, List, Some, None, Ok, IsSome, String, Vec, Bor, ℕ, cond, is_some}
+use Rattle.litemap.proofs.Common.{◌≡◌, ◌≢◌, ◌∷◌, ◌++◌, List, Option, Some, None, Ok, option_map, IsSome, String, Vec, Bor, ℕ, cond, is_some}
 use Rattle.litemap.proofs.Common.{slice_get, slice_set, refl, ap, sym, ◌∙◌, is_eq, nat_cmp, Ordering, Less, Equal, Greater, IsTotalOrder, slice_cmp}
-use Rattle.litemap.proofs.Common.{nat_list_cmp_total, on_texts, option_or, string_bytes, string_cmp, Merge, left, above, at}
+use Rattle.litemap.proofs.Common.{Rising, nat_list_cmp_total, on_texts, option_or, string_bytes, string_cmp, Merge, left, above, at}
 use Rattle.litemap.proofs.Common.{below, cut, index_of, key_or, place, put, value_at, write, value_at-cut, value_at-cut_other}
 use Rattle.litemap.proofs.Common.{value_at-put, value_at-put_other, value_at-write, value_at-write_apart, value_in-set}
 use Rattle.litemap.proofs.Common.{index_of-put, value_at-between_apart, value_at-cut_apart, value_at-set, value_at-written_apart}
@@ -16,7 +16,10 @@ use Rattle.litemap.proofs.Common.{key_alike, key_same, value_at-left, value_at-m
 use Rattle.std.proofs.lemmas.Cmp.{tied_itself}
 use Rattle.std.proofs.lemmas.Map.Lookups.{exact_bytes}
 use Rattle.std.specs.String.{string_cmp_total}
-use Rattle.litemap_store.specs.Queries.{by_slice, by_string}
+use Rattle.std.specs.Option.{option_map_or}
+use Rattle.litemap_store.specs.Queries.{OneSide, by_slice, by_string, key_one_side}
+use Rattle.litemap_store.proofs.Names.{cons_option}
+use Rattle.litemap_store.proofs.Search.Splitting.{parted}
 use Rattle.litemap.specs.ByBytes.{by_bytes}
 use Rattle.litemap.specs.Combined.{combined, found_with}
 use Rattle.litemap.proofs.Combining.{value_at-combined}
@@ -44,6 +47,22 @@ module _ {K : Type 0} (bytes : K → List ℕ) where
 
   cut_others : {V : Type 0} (L : List (K × V)) (t u : List ℕ) → u ≢ t → value_at by (cut by L t) u ≡ value_at by L u
   cut_others L t u n = value_at-cut_apart by t by u (slice_cmp nat_cmp u t) (differs t u n) (turned t u) L
+
+-- ---- the value that is there, written again
+module _ {K Q V : Type 0} {cmp : K → K → Ordering} {order : K → Q → Ordering} (one : OneSide cmp order) (L : List (K × V)) (q : Q) (r : Rising cmp L) where
+  write_same : (v : V) → value_at order L q ≡ Some v → write order L q v ≡ L
+  write_same v e = by (at order L q) refl
+    where
+      by : (a : Option (K × V)) → at order L q ≡ a → option_map_or (λ p. below order L q ++ (p.0, v) ∷ above order L q) (at order L q) L ≡ L
+      by None f = rw f refl
+      by (Some p) f =
+          let g : Some p.1 ≡ Some v = sym (ap (option_map (λ x. x.1)) f) ∙ e in
+          let h : p.1 ≡ v = cc in
+          rw f (ap (λ w. below order L q ++ (p.0, w) ∷ above order L q) (sym h)
+          ∙ ap (λ o. below order L q ++ cons_option o (above order L q)) (sym f) ∙ sym (parted one L q r))
+
+pub text_one_side : {Z : Type 0} → OneSide (string_cmp {Z = Z}) by_string
+text_one_side t x y = key_one_side nat_list_cmp_total t (string_bytes x) (string_bytes y)
 
 -- ---- strings that a string finds
 module _ {Z : Type 0} (t : List ℕ) (x y : String Z) where
@@ -121,6 +140,9 @@ module _ {V Z : Type 0} where
 
   pub text_write_others : (L : List (String Z × V)) (t u : List ℕ) (v : V) → u ≢ t → value_at by_string (write by_string L t v) u ≡ value_at by_string L u
   text_write_others L t u v n = write_others (λ k. string_bytes k) L t u v n
+
+  pub text_write_same : (L : List (String Z × V)) (t : List ℕ) (v : V) → Rising string_cmp L → value_at by_string L t ≡ Some v → write by_string L t v ≡ L
+  text_write_same L t v r e = write_same text_one_side L t r v e
 
   -- what a write at an index leaves if a pair is there
   pub text_set_others : (L : List (String Z × V)) (i : ℕ) (u : List ℕ) (p : String Z × V) (v : V) → slice_get L i ≡ Some p → string_bytes p.0 ≢ u
@@ -225,8 +247,18 @@ pub ruleset text_keys = (
   value_in-set,
 )
 
--- fewer of them, for a chain of `entry`: with the others the search reaches its limit
-pub ruleset text_entries = (text_put_found, text_put_others, text_cut_gone, text_cut_others)
+pub ruleset texts = (
+  text_put_found,
+  text_put_others,
+  text_write_found,
+  text_write_others,
+  text_write_same,
+  text_cut_gone,
+  text_cut_others,
+  text_merged,
+  text_left,
+  key_is_text,
+)
 
 pub ruleset byte_keys = (byte_write_found, byte_write_others, byte_cut_gone, byte_cut_others, value_in-set)
 

@@ -13,7 +13,7 @@ use Rattle.litemap_store.specs.Splits.{Splits}
 use Rattle.litemap_store.proofs.Lists.Ends.{AllBelow-from_last, Rising-push}
 use Rattle.litemap_store.proofs.Lists.Parts.{Less-from_is_lt, Less-from_Rising}
 use Rattle.litemap_store.proofs.Search.Splitting.{there-from_Splits}
-use Rattle.name_index.specs.{AreNames, Listed, comes_after, names_one, pairs_set, text_order, HasKey, IsEntry, IsIndex, IsKeyAt, IsNumberAt, NoEntry, NoIndex}
+use Rattle.name_index.specs.{AreNames, Listed, comes_after, names_one, pairs_set, text_order, HasKey, IsEntry, IsIndex, IsKeyAt, NoEntry}
 use Rattle.name_index.specs.{NoNames, entry_one, number_one, text_one}
 
 pub text_order_total : IsTotalOrder text_order
@@ -155,12 +155,7 @@ module _ {bytes : List ℕ} {len : ℕ} {pairs : List (List ℕ × List ℕ)} (a
 pub missing : {bytes : List ℕ} {len : ℕ} (index : ℕ) → index < len → NoEntry bytes len index → NoNames (IsEntry bytes len) len
 missing index l none pairs a = entry_there a index l none
 
--- bytes have one number of entries, and one index
-pub no_index : (bytes : List ℕ) (len : ℕ) → IsNumberAt bytes 0 len → NoNames (IsEntry bytes len) len → NoIndex bytes
-no_index bytes len number none pairs x =
-    let e : x.len ≡ len = number_one bytes 0 x.len len x.number number in
-    none pairs (subst (λ n. AreNames (IsEntry bytes n) n pairs) e x.entries)
-
+-- bytes have one index
 pub index_unique : (bytes : List ℕ) (J K : List (List ℕ × List ℕ)) → IsIndex bytes J → IsIndex bytes K → J ≡ K
 index_unique bytes J K x y =
     let e : y.len ≡ x.len = number_one bytes 0 y.len x.len y.number x.number in

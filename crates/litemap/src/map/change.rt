@@ -3,7 +3,7 @@ ghost use Rattle.std.specs.Prelude.{◌≡◌, ◌↔◌, ◌+◌, ◌*◌, ◌�
 ghost use Rattle.std.specs.Prelude.{IsNone, IsSome, IsTrue, IsOk, None, Ok, IfOk, IfSome, OnOk, OnErr, true, false};
 ghost use Rattle.std.specs.Fn.{FnOnceReturnsAt, FnOnceTakesAt};
 ghost use Rattle.litemap_store.specs.Counts.{RisesByAtMost, digits};
-ghost use Rattle.litemap_store.specs.Pairs.{AllBelow, at, place, put, value_at};
+ghost use Rattle.litemap_store.specs.Pairs.{AllBelow, Rising, at, place, put, value_at};
 ghost use Rattle.litemap_store.specs.Retain.{CallableOnEach, Kept, Tests};
 ghost use Rattle.litemap_store.specs.Search.{CallableOnKeys};
 ghost use Rattle.litemap_store.specs.Splits.{IsMissingAt};
@@ -40,6 +40,7 @@ impl<K: Ord + Drop, V, S: StoreMut<K, V>> LiteMap<K, V, S> {
         ensures inserts { Inserts K.cmp key value self.old self.new result }
         ensures updates { OnOk result (Updates K.cmp key (Some value) self.old.pairs self.new.pairs) }
         ensures places { OnOk result (Places K.cmp key (Some value) self.old.pairs self.new.pairs) }
+        ensures rising { Rising K.cmp self.old.pairs }
     {
         self.insert_counted(key, value, &mut Count::new())
     }
@@ -54,6 +55,7 @@ impl<K: Ord + Drop, V, S: StoreMut<K, V>> LiteMap<K, V, S> {
         ensures inserts { Inserts K.cmp key value self.old self.new result }
         ensures updates { OnOk result (Updates K.cmp key (Some value) self.old.pairs self.new.pairs) }
         ensures places { OnOk result (Places K.cmp key (Some value) self.old.pairs self.new.pairs) }
+        ensures rising { Rising K.cmp self.old.pairs }
         ensures cost { RisesByAtMost (digits (length self.old.pairs)) count.old count.new }
     {
         match self.search(&key, count) {
@@ -187,6 +189,7 @@ impl<K: Ord + Drop, V, S: StoreMut<K, V>> LiteMap<K, V, S> {
         ensures removed { Removes Q.order (Q.sought key) S.keeps_memory self.old self.new result }
         ensures updates { Finds Q.order (Q.sought key) None self.old.pairs self.new.pairs }
         ensures places { Places Q.order (Q.sought key) None self.old.pairs self.new.pairs }
+        ensures rising { Rising K.cmp self.old.pairs }
     {
         self.remove_counted(key, &mut Count::new())
     }
@@ -197,6 +200,7 @@ impl<K: Ord + Drop, V, S: StoreMut<K, V>> LiteMap<K, V, S> {
         ensures removed { Removes Q.order (Q.sought key) S.keeps_memory self.old self.new result }
         ensures updates { Finds Q.order (Q.sought key) None self.old.pairs self.new.pairs }
         ensures places { Places Q.order (Q.sought key) None self.old.pairs self.new.pairs }
+        ensures rising { Rising K.cmp self.old.pairs }
         ensures cost { RisesByAtMost (digits (length self.old.pairs)) count.old count.new }
     {
         Some(self.take_out(key, count)?.1)

@@ -33,6 +33,7 @@ impl<K: Ord, V, S: StoreMut<K, V>> LiteMap<K, V, S> {
         ensures removed { Removes Q.order (Q.sought key) S.keeps_memory self.old self.new result }
         ensures updates { Finds Q.order (Q.sought key) None self.old.pairs self.new.pairs }
         ensures places { Places Q.order (Q.sought key) None self.old.pairs self.new.pairs }
+        ensures rising { Rising K.cmp self.old.pairs }
     {
         self.take_out(key, &mut Count::new())
     }
@@ -72,6 +73,7 @@ impl<K: Ord, V, S: StoreMut<K, V>> LiteMap<K, V, S> {
         ensures removed { Removes Q.order (Q.sought key) S.keeps_memory self.old self.new result }
         ensures updates { Finds Q.order (Q.sought key) None self.old.pairs self.new.pairs }
         ensures places { Places Q.order (Q.sought key) None self.old.pairs self.new.pairs }
+        ensures rising { Rising K.cmp self.old.pairs }
         ensures cost { RisesByAtMost (digits (length self.old.pairs)) count.old count.new }
     {
         match self.search(key, count) {

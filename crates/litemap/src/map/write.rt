@@ -10,7 +10,7 @@ ghost use Rattle.std.specs.Map.{keys_of, values_of};
 ghost use Rattle.std.specs.Option.{option_copied_mut};
 ghost use Rattle.litemap_store.specs.IterMut.{iter_mut_loan, iter_mut_left};
 ghost use Rattle.litemap_store.specs.Lent.{set_values};
-ghost use Rattle.litemap_store.specs.Pairs.{at, value_at, value_in, write};
+ghost use Rattle.litemap_store.specs.Pairs.{Rising, at, value_at, value_in, write};
 ghost use Rattle.litemap_store.specs.Search.{CallableOnKeys, Found};
 ghost use Rattle.litemap.specs.KeptWritten.{KeptWritten, WritesAndTests};
 ghost use Rattle.litemap.specs.Lends.{LendsThere, LendsFound, LendsKey, LendsIndex, LendsValue, LendsValues};
@@ -49,6 +49,7 @@ impl<K: Ord, V, S: StoreMut<K, V>> LiteMap<K, V, S> {
             (Some v) self.old.pairs (write Q.order self.old.pairs (Q.sought key) v) }
         ensures keys { (v : V) → keys_of (write Q.order self.old.pairs (Q.sought key) v) ≡ keys_of self.old.pairs }
         ensures len { (v : V) → length (write Q.order self.old.pairs (Q.sought key) v) ≡ length self.old.pairs }
+        ensures rising { Rising K.cmp self.old.pairs }
     {
         match self.search(key, &mut Count::new()) {
             Ok(index) => Some(self.value_in_mut(index)),

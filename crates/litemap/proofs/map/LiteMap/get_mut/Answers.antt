@@ -12,6 +12,7 @@ returns-in-Ok g c = (
     updates = λ v there. (finds_write g.Q.Query.order (g.Q.Query.sought c.args.key) c.args.self.now.pairs c.in-Ok.index c.in-Ok.ensures.splits v);
     keys = keys_of-write _ _ _ (Ok _) c.in-Ok.ensures.splits;
     len = length-write _ _ _ (Ok _) c.in-Ok.ensures.splits;
+    rising = c.in-Ok.ensures.rising;
   },
 )
 
