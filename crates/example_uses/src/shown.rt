@@ -11,7 +11,7 @@ use crate::numbers::{self, Ages, Readings, Shelf, Stock};
 use crate::people::{self, Person, kept_for};
 use crate::sets::{self, Set};
 use crate::stores::{moved, total};
-use crate::sums::{self, Named};
+use crate::sums::{self, Named, Vector};
 use crate::texts::{self, ByteNumbers, Numbers};
 use crate::words::{self, Counts};
 use crate::{config, keywords, parts, reserved, scores, trees};
@@ -297,7 +297,10 @@ fn show_sums(rt: &impl Print, alloc: Global) -> io::Result<()> {
             sums::take_from(&mut sum, name, 30)
         )?;
     }
-    println!(rt; "settled {settled:?}, left {sum:?}")
+    println!(rt; "settled {settled:?}, left {sum:?}")?;
+    let mut vector = Vector::new_vec(alloc);
+    sums::set(&mut vector, 2, 5)?;
+    println!(rt; "vector {vector:?}")
 }
 
 // The totals of a map of two pairs, over a vector, a slice of it, and two columns that it moves to.

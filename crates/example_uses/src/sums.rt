@@ -1,5 +1,5 @@
 //! Sparse vectors: numbers at indices, 0 where there is none. And numbers at names.
-ghost use Rattle.std.specs.Prelude.{◌≡◌, ◌+◌, ◌≤◌, IsTrue, OnOk, OnErr, min, sum, unwrap_or};
+ghost use Rattle.std.specs.Prelude.{◌≡◌, ◌+◌, ◌<◌, ◌≤◌, All, IsTrue, OnOk, OnErr, min, sum, unwrap_or};
 ghost use Rattle.std.specs.Bool.{IsFalse};
 ghost use Rattle.std.specs.Map.{values_of};
 ghost use Rattle.litemap_store.specs.Pairs.{at, value_at};
@@ -30,6 +30,17 @@ pub fn add(sum: &mut Vector, alloc: Global, other: Vector) -> Result<(), NoRoom<
             ensures { new.new ≡ here.now + new.old }
         { *new += *here },
     )?;
+    Ok(())
+}
+
+/// Sets a number that isn't 0. If no other that the vector has is 0, none is afterwards.
+// By these lemmas alone: with all of the root's set the search reaches its limit.
+#[tactic(auto, using(litemap_store::proofs::Callers::Every::every_pair))]
+pub fn set(vector: &mut Vector, index: u32, number: u64) -> Result<(), AllocError>
+    requires { 0 < number }
+    ensures { OnOk result (All (λ p. 0 < p.1) vector.old.pairs → All (λ p. 0 < p.1) vector.new.pairs) }
+{
+    vector.insert(index, number)?;
     Ok(())
 }
 
