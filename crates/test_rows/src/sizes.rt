@@ -1,9 +1,9 @@
 //! Calls of maps over pairs of other sizes than those of `test_replay`: of 8 bytes, of 4 with values of none, and keys of 48.
 //!
 //! A row is `KIND STORE CALL LEN FIRST COUNT STEP`. `KIND` names the types of a pair, `small`, `set` or `wide`, and `STORE` is
-//! `vec` or `columns`. The map has `LEN` keys, 10,002, 10,004 and so on, and no room for more. Given are `COUNT` pairs, of the key
-//! `FIRST` and each that is `STEP` above the one before it, with the number after its key as its value. The output is what the
-//! call tells, a number, and the sum of the pairs after it (`sums`).
+//! `vec` or `columns`. The map has `LEN` keys, 10,002, 10,004 and so on, and no room for more. Given are `COUNT` pairs, of the
+//! key `FIRST` and each that is `STEP` above the one before it, with the number after its key as its value. The output is what
+//! the call tells, a number, and the sum of the pairs after it (`sums`).
 
 mod calls;
 mod copies;
