@@ -8,6 +8,7 @@ import bisect
 import collections
 import functools
 import itertools
+import math
 import pathlib
 import re
 
@@ -52,16 +53,11 @@ def spelled(*groups, **given):
             yield from (" ".join([name, *map(str, words)]).rstrip() for words in itertools.product(*(given[kind] for kind in GROUPS[it].words)))
 
 
-def digits(number):
-    """The most comparisons of a search."""
-    return number.bit_length()
-
-
 @functools.cache
 def searched(size, place, is_there):
     """The most comparisons of a search that ends at a place. Stores round the half of what is left up or down."""
     if size > LONG:
-        return digits(size)
+        return size.bit_length()
     most = 0
     for rest in (0, 1):
         low, left, cost = 0, size, 0
@@ -83,16 +79,8 @@ def sorting(keys):
     elif all(high > low for high, low in zip(keys, keys[1:])):
         sort = number - 1
     else:
-        sort = number + number * digits(number)
+        sort = number + number * number.bit_length()
     return sort + number - 1
-
-
-def summed(total, text):
-    """A checksum that continues another one with the bytes of a text."""
-    for byte in text.encode():
-        total = (total ^ byte) * STEP & MASK
-        total ^= total >> 29
-    return total
 
 
 # What a key is compared by, by the name of its order.
@@ -106,35 +94,28 @@ RANKS = {
 }
 
 
-class Order:
-    """An order of keys: how their words are read, and how they compare."""
-
-    def __init__(self, name):
-        self.name, self.rank = name, RANKS[name]
-        # The number of a word: of a text the one whose bytes, from the highest one on, are those of the text.
-        self.code = int if name in ("number", "falling") else lambda word: int.from_bytes(word.encode().ljust(8, b"\0"), "big")
-
-
 class Model:
-    """A map: its pairs as words, and its room, if that is fixed (None if it grows)."""
+    """A map: the order of its keys by its name, its pairs as words, and its room, if that is fixed."""
 
-    def __init__(self, order, pairs=(), room=None):
-        self.order, self.pairs, self.room = order, list(pairs), room
+    def __init__(self, order, pairs=(), room=math.inf):
+        self.order, self.rank, self.pairs, self.room = order, RANKS[order], list(pairs), room
+        # The number of a word: of a text the one whose bytes, from the highest one on, are those of the text.
+        self.code = int if order in ("number", "falling") else lambda word: int.from_bytes(word.encode().ljust(8, b"\0"), "big")
 
     def text(self, pairs):
         """The text of pairs in a line."""
         pairs = list(pairs)
         if len(pairs) <= 6:
             return " ".join(f"{key}:{value}" for key, value in pairs) or "-"
-        total, code = 0, self.order.code
+        total = 0
         for key, value in pairs:
-            total = (((total ^ code(key)) * STEP & MASK) ^ value) * STEP & MASK
+            total = (((total ^ self.code(key)) * STEP & MASK) ^ value) * STEP & MASK
             total ^= total >> 29
         return f"#{len(pairs)}:{total % 10**9}"
 
     def place(self, key):
         """The number of smaller keys, and whether an equal one is present."""
-        rank = self.order.rank
+        rank = self.rank
         below = bisect.bisect_left(self.pairs, rank(key), key=lambda pair: rank(pair[0]))
         return below, below < len(self.pairs) and rank(self.pairs[below][0]) == rank(key)
 
@@ -144,7 +125,7 @@ class Model:
 
     def searches(self, pairs):
         """The most comparisons of insertions, each by a search, and whether each key was absent."""
-        there, rank = [self.order.rank(key) for key, _ in self.pairs], self.order.rank
+        there, rank = [self.rank(key) for key, _ in self.pairs], self.rank
         cost, absent = 0, []
         for key, _ in pairs:
             place = bisect.bisect_left(there, rank(key))
@@ -156,37 +137,29 @@ class Model:
 
     def last(self, pairs):
         """The last pair of each key, in ascending order."""
-        kept = {}
-        for key, value in pairs:
-            kept[self.order.rank(key)] = (key, value)
+        kept = {self.rank(pair[0]): pair for pair in pairs}
         return [kept[rank] for rank in sorted(kept)]
 
     def rises(self, pairs):
-        ranks = [self.order.rank(key) for key, _ in pairs]
+        ranks = [self.rank(key) for key, _ in pairs]
         return all(low < high for low, high in zip(ranks, ranks[1:]))
 
     def taken(self, count=1):
         """Takes room for so many pairs, if it is there."""
-        if self.room is not None and self.room < count:
+        if self.room < count:
             return False
-        self.freed(-count)
+        self.room -= count
         return True
 
-    def put(self, key, value):
-        """Inserts an absent key, if there is room. Returns the error if there isn't."""
-        place, _ = self.place(key)
+    def put(self, key, value, place=None):
+        """Inserts an absent key, at its place if none is given, if there is room. Returns the error if there isn't."""
         if not self.taken():
             return f"refused {key}:{value}"
-        self.pairs.insert(place, (key, value))
+        self.pairs.insert(self.place(key)[0] if place is None else place, (key, value))
         return None
 
-    def freed(self, count):
-        if self.room is not None:
-            self.room += count
-
     def remove(self, index):
-        """Takes out the pair at an index."""
-        self.freed(1)
+        self.room += 1
         return self.pairs.pop(index)
 
     def bounds(self, words):
@@ -205,12 +178,10 @@ class Model:
         """The pairs that these words stand for."""
         pairs = []
         for word in words:
-            if word.startswith("room="):
-                continue
             if ":" in word:
                 key, value = word.split(":")
                 pairs.append((key, int(value)))
-            else:
+            elif not word.startswith("room="):
                 first, count, step = map(int, word.split(","))
                 pairs += [(str(first + place * step), place) for place in range(count)]
         return pairs
@@ -237,7 +208,10 @@ class Model:
             if not name.startswith("lm_"):
                 place, there = self.place(code)
                 answer += f" {self.pairs[place][1] if there else 'none'} {len(self.pairs)}"
-            most, total = max(most, cost), summed(total, answer)
+            most = max(most, cost)
+            for byte in answer.encode():
+                total = (total ^ byte) * STEP & MASK
+                total ^= total >> 29
         self.pairs, self.room = pairs, room
         return f"swept {total % 10**9}", most
 
@@ -285,12 +259,12 @@ class Model:
         return None
 
     def by_key(self, name, words):
-        if name in ("get_indexed_mut", "lm_get_mut", "lm_pair_mut"):
-            index, value = map(int, words)
+        if name in ("get_indexed_mut", "lm_get_mut", "lm_pair_mut", "lm_replace"):
+            index, (*new_key, value) = int(words[0]), words[1:]
             if index >= len(self.pairs):
                 return "none"
             key, old = self.pairs[index]
-            self.pairs[index] = (key, value)
+            self.pairs[index] = (*(new_key or [key]), int(value))
             return str(old) if name == "get_indexed_mut" else f"{key}:{old}"
         if name not in LOOK_UPS:
             return None
@@ -372,7 +346,7 @@ class Model:
             index = {"pop_first": 0, "pop_last": -1}.get(name) if name != "lm_remove" else int(words[0])
             return self.text([self.remove(index)]) if self.pairs else "none"
         if name in ("clear", "lm_clear"):
-            self.freed(len(self.pairs))
+            self.room += len(self.pairs)
             self.pairs = []
             return "ok"
         if name in ("retain", "lm_retain", "extract"):
@@ -380,7 +354,7 @@ class Model:
             for place, pair in enumerate(self.pairs):
                 marked[bool(int(words[0]) >> place % 64 & 1)].append(pair)
             self.pairs = marked[name != "extract"]
-            self.freed(size - len(self.pairs))
+            self.room += size - len(self.pairs)
             return self.text(marked[True]) if name == "extract" else str(size)
         if name == "update":
             self.pairs = [(key, value + int(words[0]) + place) for place, (key, value) in enumerate(self.pairs)]
@@ -388,16 +362,10 @@ class Model:
         return None
 
     def rename(self, key, new_key):
-        cost, (place, there) = self.search(key), self.place(key)
-        if not there:
+        value, cost = self.make(f"remove {key}")
+        if value == "none":
             return "false", cost
-        _, value = self.remove(place)
-        cost, (place, there) = cost + self.search(new_key), self.place(new_key)
-        if there:
-            self.pairs[place] = (self.pairs[place][0], value)
-        else:
-            self.put(new_key, value)
-        return "true", cost
+        return "true", cost + self.make(f"insert {new_key} {value}")[1]
 
     def walk(self, name, words):
         if name in ("iter", "keys", "values"):
@@ -427,7 +395,7 @@ class Model:
         """The most comparisons of bulk input: by a merge, or in a vector by a search for each of few pairs."""
         if not pairs:
             return 0
-        mine, theirs = ([self.order.rank(key) for key, _ in some] for some in (self.pairs, pairs))
+        mine, theirs = ([self.rank(key) for key, _ in some] for some in (self.pairs, pairs))
         total, rises = len(mine) + len(theirs), self.rises(pairs)
         # it is tested up to the first pair that doesn't ascend
         tested = next((place for place in range(1, len(theirs)) if theirs[place - 1] >= theirs[place]), len(theirs) - 1)
@@ -436,7 +404,7 @@ class Model:
         end = 0 if below else min(mine[-1], max(theirs))
         walk = 0 if below else len({key for key in mine + theirs if key <= end})
         merge = tested + (0 if rises else sorting(theirs)) + bool(mine) + walk
-        is_few = len(pairs) <= FEW and len(pairs) * digits(total) < total and not (rises and below)
+        is_few = len(pairs) <= FEW and len(pairs) * total.bit_length() < total and not (rises and below)
         return max(merge, tested + rises + self.searches(pairs)[0] if is_few else 0)
 
     def many(self, name, words):
@@ -445,20 +413,13 @@ class Model:
             return "refused"
         if name in ("clone", "new", "lm_empty", "with_capacity", "lm_with_capacity"):
             if name != "clone":
-                self.pairs, self.room = [], None if self.room is None else size
+                self.pairs, self.room = [], size if self.room < math.inf else self.room
             return "ok"
         if name in ("reserve", "lm_reserve"):
-            return "ok" if self.room is None or self.room >= size else "refused"
+            return "ok" if self.room >= size else "refused"
         if name in ("lm_push", "lm_insert"):
             *index, key, value = words
-            if not self.taken():
-                return f"refused {key}:{value}"
-            self.pairs.insert(int(index[0]) if index else len(self.pairs), (key, int(value)))
-            return "ok"
-        if name == "lm_replace":
-            index, key, value = words
-            old, self.pairs[int(index)] = self.pairs[int(index)], (key, int(value))
-            return self.text([old])
+            return self.put(key, int(value), int(index[0]) if index else len(self.pairs)) or "ok"
         if name in READS:
             return self.read(name, words)
         if name == "read_results":
@@ -512,31 +473,29 @@ class Model:
     def extend(self, name, pairs):
         cost = self.cost(pairs)
         fresh = self.last(pairs)
-        above = not self.pairs or not fresh or self.order.rank(self.pairs[-1][0]) < self.order.rank(fresh[0][0])
+        above = not self.pairs or not fresh or self.rank(self.pairs[-1][0]) < self.rank(fresh[0][0])
         if above and not self.taken(len(fresh)):
             return "refused" + (f" {self.text(pairs)}" if "_vec" in name else ""), cost
         self.pairs = self.last(self.pairs + pairs)
         return "ok", cost
 
     def merge(self, pairs):
-        old, rank = self.pairs, self.order.rank
-        there, came = {rank(key) for key, _ in old}, {rank(key): value for key, value in pairs}
-        cost = self.merging(pairs)
-        values = {rank(key): value for key, value in old}
-        left = [(key, values[rank(key)]) for key, _ in pairs if rank(key) in there]
+        old, rank, cost = self.pairs, self.rank, self.merging(pairs)
+        there, came = ({rank(key): value for key, value in some} for some in (old, pairs))
+        left = [(key, there[rank(key)]) for key, _ in pairs if rank(key) in there]
         kept = [(key, came.get(rank(key), value)) for key, value in old]
         self.pairs = sorted(kept + [pair for pair in pairs if rank(pair[0]) not in there], key=lambda pair: rank(pair[0]))
         return (f"left {self.text(left)}" if left else "none"), cost
 
     def merging(self, pairs):
         """The most comparisons of a merge: of two ends, and then of a walk over both, or of a search for each new pair."""
-        mine, theirs = ([self.order.rank(key) for key, _ in some] for some in (self.pairs, pairs))
+        mine, theirs = ([self.rank(key) for key, _ in some] for some in (self.pairs, pairs))
         if not mine or not theirs or mine[-1] < theirs[0]:
             return 1 if mine and theirs else 0
         if theirs[-1] < mine[0]:
             return 2
         total = len(mine) + len(theirs)
-        if total <= len(theirs) * digits(total):
+        if total <= len(theirs) * total.bit_length():
             # a walk over two lists side by side, until one of them ends
             end = min(mine[-1], theirs[-1])
             return 2 + len({key for key in mine + theirs if key <= end})
@@ -550,23 +509,23 @@ class Model:
 
     def combined(self, pairs):
         """These pairs, with the values of common keys combined."""
-        here, new, asked = {self.order.rank(key): value for key, value in self.pairs}, [], 0
+        here, new, asked = {self.rank(key): value for key, value in self.pairs}, [], 0
         for key, value in pairs:
-            if self.order.rank(key) in here:
-                value += 3 * here[self.order.rank(key)] + self.order.code(key) % 7 + 1000 * asked
+            if self.rank(key) in here:
+                value += 3 * here[self.rank(key)] + self.code(key) % 7 + 1000 * asked
                 asked += 1
             new.append((key, value))
         return new
 
     def combine(self, pairs):
-        there = {self.order.rank(key) for key, _ in self.pairs}
-        asked, searches = sum(self.order.rank(key) in there for key, _ in pairs), sum(self.search(key) for key, _ in pairs)
+        there = {self.rank(key) for key, _ in self.pairs}
+        asked, searches = sum(self.rank(key) in there for key, _ in pairs), sum(self.search(key) for key, _ in pairs)
         answer, cost = self.merge(self.combined(pairs))
         return f"{answer} asked {asked}", cost + searches
 
     def beside(self, name, pairs):
-        theirs, left, cost, found, old = [self.order.rank(key) for key, _ in pairs], 0, 0, [], len(self.pairs)
-        for key in [self.order.rank(key) for key, _ in self.pairs]:
+        theirs, left, cost, found, old = [self.rank(key) for key, _ in pairs], 0, 0, [], len(self.pairs)
+        for key in [self.rank(key) for key, _ in self.pairs]:
             place = bisect.bisect_left(theirs, key)
             found.append(place < len(theirs) and theirs[place] == key)
             # it is compared with each key up to the first that isn't smaller, from the last one that wasn't passed
@@ -577,7 +536,7 @@ class Model:
         if name.startswith("is_subset"):
             return ("true" if all(found) else "false"), cost
         self.pairs = [pair for pair, there in zip(self.pairs, found) if there == (name == "keep_keys_of")]
-        self.freed(old - len(self.pairs))
+        self.room += old - len(self.pairs)
         return "ok", cost
 
     def read(self, name, words):
@@ -607,7 +566,7 @@ class Model:
         made = Model(self.order)
         answers = [made.step(word)[0] for word in words]
         is_put = all(word.startswith("insert:") for word in words)
-        return f"[{', '.join(answers)}] {made.look('debug', [])}", len(words) * digits(len(words)) if is_put else None
+        return f"[{', '.join(answers)}] {made.look('debug', [])}", len(words) * len(words).bit_length() if is_put else None
 
     def step(self, word):
         """Makes a call of a list: what it returns, and its error out of memory, if it may need some."""
@@ -626,8 +585,8 @@ class Model:
         return result + told[result], refusal
 
     def compare(self, name, other):
-        mine = [(self.order.rank(key), value) for key, value in self.pairs]
-        theirs = [(self.order.rank(key), value) for key, value in other]
+        mine = [(self.rank(key), value) for key, value in self.pairs]
+        theirs = [(self.rank(key), value) for key, value in other]
         # they end at the first difference
         same = sum(1 for _ in itertools.takewhile(lambda pair: pair[0] == pair[1], zip(mine, theirs)))
         most = min(same + 1, len(mine), len(theirs))
@@ -686,21 +645,22 @@ def first_pairs(length):
     return [(str(2 * place), 20 * place) for place in range(1, length + 1)]
 
 
-def block(stores, length, room, calls, order="number", is_fixed=False):
+def begun(stores, order, length, room):
+    """The map with which a line over these stores begins."""
+    return Model(order, first_pairs(int(length)), int(room) if stores == "fixed" else math.inf)
+
+
+def block(stores, length, room, calls):
     """Calls that each begin with the same pairs."""
-    yield f"on {stores}"
-    yield f"with {order} {length} {room}"
-    for call in calls:
-        yield line(Model(Order(order), first_pairs(length), room if is_fixed else None), call)
+    yield from (f"on {stores}", f"with number {length} {room}")
+    yield from (line(begun(stores, "number", length, room), call) for call in calls)
 
 
-def chain(stores, calls, order="number", room=None, is_fixed=False):
+def chain(stores, calls, order="number", room=0):
     """Calls that each continue from the one before, the first from an empty map with this room."""
-    yield f"on {stores}"
-    yield f"with {order} 0 {room or 0}"
-    model = Model(Order(order), [], room if is_fixed else None)
-    for place, call in enumerate(calls):
-        yield line(model, call, "+ " if place else "")
+    yield from (f"on {stores}", f"with {order} 0 {room}")
+    model = begun(stores, order, 0, room)
+    yield from (line(model, call, "+ " * bool(place)) for place, call in enumerate(calls))
 
 
 # The lengths past nine at which the second key and the last but one are taken too, with the gaps beside them.
@@ -782,10 +742,10 @@ def changes():
         writes += ["pop_first", "pop_last", "clear", "update 5", "reserve 0", "reserve 1"]
         writes += [f"retain {bits}" for bits in RETAINED]
         twice = [*spelled("enter_twice", KEY=present(length) + absent(length), VALUE=[7])]
-        yield from block(ALL, length, 1, calls + writes + twice, is_fixed=False)
+        yield from block(ALL, length, 1, calls + writes + twice)
         writes += [f"extract {bits}" for bits in RETAINED]
         yield from block(GROWING, length, 0, calls + writes + [f"reserve {more}" for more in (2, 8, 100)])
-        yield from block("fixed", length, 0, calls + writes[: -8 - len(RETAINED)] + ["reserve 0", "reserve 1"], is_fixed=True)
+        yield from block("fixed", length, 0, calls + writes[: -8 - len(RETAINED)] + ["reserve 0", "reserve 1"])
 
 
 # Which pairs are kept, by the bits of a number: none, all, the first, all but the first, in turns, the last of 64, and others.
@@ -841,13 +801,13 @@ def bulk():
             yield from block(GROWING, length, 0, errors)
     above = [*spelled(*EXTENDING, PAIRS=[f"1001,{count},1" for count in (0, 1, 2, 40)])]
     for room in (0, 1, 2, 39):
-        yield from block("fixed", 20, room, above + ["reserve 3", f"reserve {room}"], is_fixed=True)
+        yield from block("fixed", 20, room, above + ["reserve 3", f"reserve {room}"])
 
 
 def is_before(call):
     """Whether a call merges pairs before all others: a store with a fixed room would then have to move into the other one."""
     name, *words = call.split(" ")
-    codes = [int(key) for key, _ in Model(Order("number")).given(words)] if name in MERGES + COMBINES else []
+    codes = [int(key) for key, _ in Model("number").given(words)] if name in MERGES + COMBINES else []
     return bool(codes) and max(codes) < 2
 
 
@@ -866,9 +826,9 @@ def stores():
         yield from block(ALL, length, 1, looks + puts + ["lm_reserve 0", "lm_reserve 1"])
         yield from block(SLICED, length, 1, ["lm_debug", "lm_debug_lines"] if length <= 129 else [])
         yield from block(GROWING, length, 0, looks + puts + ["lm_reserve 0", "lm_reserve 1", "lm_reserve 8"])
-        yield from block("fixed", length, 0, puts + ["lm_reserve 0", "lm_reserve 1"], is_fixed=True)
+        yield from block("fixed", length, 0, puts + ["lm_reserve 0", "lm_reserve 1"])
         if length:
-            yield from block("fixed", length, 0, ["lm_extend_end 9999:1", "lm_extend_start 1:1"], is_fixed=True)
+            yield from block("fixed", length, 0, ["lm_extend_end 9999:1", "lm_extend_start 1:1"])
         given = list(inputs(length))
         many = [*spelled(*STORE_EXTENDING, *(["store_join"] if length <= 33 else []), PAIRS=given)]
         yield from block(GROWING, length, 0, many)
@@ -971,7 +931,7 @@ def listed():
         given = [f"1,{length},1", f"{2 * length},{length},-2", f"1,{length},3 2,{length},1"]
         errors = ["-", *(range(length) if length in (1, 2, 13) else ())]
         yield from block(GROWING, 3, 0, spelled("read_results", ERROR=errors, PAIRS=given))
-        lists = [[f"insert:{key}:{value}" for key, value in Model(Order("number")).given(pairs.split(" "))] for pairs in given]
+        lists = [[f"insert:{key}:{value}" for key, value in Model("number").given(pairs.split(" "))] for pairs in given]
         yield from block("vec", 3, 0, [" ".join([name, *calls]) for name in RUNS for calls in lists] if length <= 40 else [])
 
 
@@ -1035,7 +995,7 @@ def renamed():
         calls += [f"rename_counted {key} {new_key}" for key in ends for new_key in ends]
         yield from block(ALL, length, 1, calls)
         yield from block(GROWING, length, 0, calls)
-        yield from block("fixed", length, 0, calls, is_fixed=True)
+        yield from block("fixed", length, 0, calls)
     for key, new_key in itertools.product("AbCd", "aBcDe"):
         yield from chain(ALL, ["from_vec a:0 B:9 c:8", f"rename {key} {new_key}"], "letter", 8)
 
@@ -1067,7 +1027,7 @@ def twenty():
     changes += ["retain 1048575", "extend " + " ".join(OTHERS), "try_clone", "clear"]
     searched = itertools.chain.from_iterable([change, *look, "clone", *look] for change in changes)
     yield from chain(GROWING, ["with_capacity 64", *steps, *searched])
-    yield from chain("fixed", ["with_capacity 64", *steps], room=64, is_fixed=True)
+    yield from chain("fixed", ["with_capacity 64", *steps], room=64)
 
 
 class Generator:
@@ -1121,7 +1081,7 @@ def picked():
             calls = [picked_call(generator, order) for _ in range(150)]
             yield from chain(GROWING, calls, order)
             calls = [call for call in calls if not call.startswith(("extend", "reserve"))]
-            yield from chain("fixed", calls, order, generator.below(12), is_fixed=True)
+            yield from chain("fixed", calls, order, generator.below(12))
 
 
 def rows():
@@ -1129,12 +1089,12 @@ def rows():
     for text in (FOLDER / "data" / "rows.calls").read_text(encoding="utf-8").splitlines():
         word, _, words = text.partition(" ")
         if word == "on":
-            is_fixed = words == "fixed"
+            stores = words
         elif word == "with":
-            order, length, room = words.split(" ")
+            begins = words.split(" ")
         elif text and word != "#":
             call, mark = text.partition(" = ")[0].removeprefix("+ "), "+ " * (word == "+")
-            model = model if mark else Model(Order(order), first_pairs(int(length)), int(room) if is_fixed else None)
+            model = model if mark else begun(stores, *begins)
             text = line(model, call, mark)
         yield text
 
@@ -1154,10 +1114,8 @@ def judged():
     return names - OF_MAPS
 
 
-FILES = {"looks": looks, "walks": walks, "changes": changes, "bulk": bulk, "stores": stores, "scattered": scattered}
-FILES |= {"refusable": refusable, "merged": merged, "beside": beside, "twenty": twenty, "picked": picked, "rows": rows}
-FILES |= {"renamed": renamed, "combined": combined, "listed": listed, "grown": grown, "roomy": roomy, "sliced": sliced, "swept": swept}
-FILES |= {"long": long}
+MAKERS = [looks, walks, changes, bulk, stores, scattered, refusable, merged, beside, twenty, picked, rows, renamed, combined, listed]
+FILES = {it.__name__: it for it in [*MAKERS, grown, roomy, sliced, swept, long]}
 
 
 def calls_of(lines):
