@@ -16,17 +16,10 @@ def printed(value):
     return json.dumps(value, ensure_ascii=False, separators=(",", ":"))
 
 
-def key_of(what, name):
-    """The key that is read from a name in an object."""
-    if what in WHOLE or what in SMALL or what == "words":
-        return int(name)
-    return {"true": True, "false": False}[name] if what == "bool" else name
-
-
 def map_again(what, text):
     """The output for a map that is read from an object or from pairs: the last pair of each key, in the order of the keys."""
-    found = json.loads(text)
-    pairs = [(key_of(what, name), item) for name, item in found.items()] if isinstance(found, dict) else found
+    found, key_of = json.loads(text), json.loads if what in (*WHOLE, *SMALL, "words", "bool") else str
+    pairs = [(key_of(name), item) for name, item in found.items()] if isinstance(found, dict) else found
     # A name if the keys are words, `true` if they are booleans.
     named = sorted(dict(map(tuple, pairs)).items(), key=lambda pair: pair[0].encode() if isinstance(pair[0], str) else pair[0])
     return printed({name if isinstance(name, str) else printed(name): item for name, item in named})

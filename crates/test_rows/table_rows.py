@@ -87,23 +87,12 @@ def index_text(data, at):
     return text(data, at, lambda data, at: (index_number(data, at), at + 4))
 
 
-def index_entries(data):
-    """How many entries an index has, and each of them by its index."""
-    number = index_number(data, 0)
-
-    def entry(index):
-        key, middle = index_text(data, 4 + 4 * number + index_number(data, 4 + 4 * index))
-        return key, index_text(data, middle)[0]
-
-    return number, entry
-
-
 def index_pairs(data):
-    number, entry = index_entries(data)
-    pairs = []
+    number, pairs = index_number(data, 0), []
     for index in range(number):
-        pairs.append(entry(index))
-        if index and pairs[-1][0].encode() <= pairs[-2][0].encode():
+        key, middle = index_text(data, 4 + 4 * number + index_number(data, 4 + 4 * index))
+        pairs.append((key, index_text(data, middle)[0]))
+        if index and key.encode() <= pairs[-2][0].encode():
             raise Fault(f"the key of the entry {index} is not above the one before it")
     return pairs
 
@@ -175,10 +164,6 @@ def changes(data):
     return [data[:at] + bytes([value]) + data[at + 1 :] for at, byte in enumerate(data) for value in range(256) if value != byte]
 
 
-def strings(alphabet):
-    return [bytes(letters[::-1]) for size in range(5) for letters in product(alphabet, repeat=size)]
-
-
 # The errors that no other line shows.
 FAULTS = "there is not enough memory; a number of the name table is too large; there is not enough memory; an entry of the name table begins at too high an offset; "
 FAULTS += "there is not enough memory; the bytes are not a JSON text; the JSON value is not a map from flags to numbers: "
@@ -201,7 +186,7 @@ ANSWERS = {
     "faults": lambda _: FAULTS,
     "prefixes": lambda data: sweep(prefixes(data)),
     "changes": lambda data: sweep(changes(data)),
-    "strings": lambda data: sweep(strings(data)),
+    "strings": lambda data: sweep([bytes(letters[::-1]) for size in range(5) for letters in product(data, repeat=size)]),
     "cuts": lambda data: sweep(prefixes(data), "opened", ""),
     "damages": lambda data: sweep(changes(data), "opened", ""),
 }
