@@ -12,15 +12,9 @@ import sys
 import threading
 
 TOP = pathlib.Path(__file__).resolve().parents[2]
-
-
-def uses_in(top):
-    """What each crate of a folder uses, by the lines of its crates.txt, in their order."""
-    lines = re.findall(r"^(\w+)[^:\n]*:(.*)", (top / "crates.txt").read_text(), re.MULTILINE)
-    return {name: uses.split() for name, uses in lines}
-
-
-CRATES = uses_in(TOP)
+# What each crate uses, by the lines of crates.txt, in their order.
+LINES = re.findall(r"^(\w+)[^:\n]*:(.*)", (TOP / "crates.txt").read_text(), re.MULTILINE)
+CRATES = {name: uses.split() for name, uses in LINES}
 
 
 def parser(text):

@@ -2,7 +2,7 @@
 import re
 import sys
 
-from lib.checks.manual import END, ENTRIES, GROUPS, INDEX, START, index_text, pages, sources_of
+from lib.checks.manual import END, ENTRIES, GROUPS, INDEX, START, index_text, page_of, page_text, sources_of
 from lib.checks.pages import BLOCKS, CODE, TEXTS, read
 from lib.checks.scopes import NAME, SCOPES, names_in
 from lib.checks.sources import CALLS, IMPLS, NOT_LISTED, example_of
@@ -12,7 +12,7 @@ from lib.shared import TOP
 sys.path.append(str(TOP / "diff"))
 import table
 
-# The libraries of which each call has an example.
+# The libraries of which each call has an example, its own or one that it shares.
 SHOWN = ["litemap"]
 # Words that mean the same in Rust, and those that the page explains with the signs.
 OF_RUST = "Some None Ok Err Option Result Bool true false String List ℕ ⊤ Data Type".split()
@@ -32,7 +32,7 @@ def write_pages(texts):
 def see_pages(report, write):
     """Compares the pages with what the sources make of them; with `write` they are written first."""
     before, _, rest = TEXTS[INDEX].partition(START)
-    texts = {INDEX: before + index_text() + rest.partition(END)[2]} | pages()
+    texts = {INDEX: before + index_text() + rest.partition(END)[2], **{page_of(it): page_text(it) for it in GROUPS}}
     if write:
         write_pages(texts)
     for page in sorted({*texts, *(it for it in TEXTS if it.startswith("docs/api/"))}):
@@ -54,16 +54,11 @@ def see_words(report):
                 report.see(not is_other or first in told, f"{INDEX} says nothing of {first}, a word of {entry.title}")
 
 
-def see_examples(report):
-    """Sees that each call of these libraries has an example, its own or one that it shares."""
-    for entry in (it for entries in ENTRIES.values() for it in entries if it.call.source.split("/")[0] in SHOWN):
-        report.see(example_of(entry.call), f"{entry.call.label} of {entry.call.source} has no example, and no other of its library calls it")
-
-
 def check(report, write):
     see_pages(report, write)
     see_words(report)
-    see_examples(report)
+    for call in (it.call for entries in ENTRIES.values() for it in entries if it.call.source.split("/")[0] in SHOWN):
+        report.see(example_of(call), f"{call.label} of {call.source} has no example, and no other of its library calls it")
     grouped = {source for group in GROUPS for source in sources_of(group)}
     for source in sorted(grouped | {it for it in CALLS if not {it, it.split("/")[0]} & {*NOT_LISTED} and (CALLS[it] or IMPLS[it])}):
         report.see(source in CALLS, f"a group of docs/API.md names {source}, and there is no such source")

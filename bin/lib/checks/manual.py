@@ -104,13 +104,6 @@ def entries_of(group):
     return found
 
 
-def types_of(group):
-    """The types and the traits that the sources of a group export."""
-    paths = {f"{source.replace('/', '/src/', 1)}.rt": source for source in sources_of(group)}
-    words = [it for it in dict.fromkeys(WORDS.values()) if it.kind in TYPES and it.path in paths]
-    return [it for it in words if exported(it.path.split("/")[0])(paths[it.path], it.name)]
-
-
 ENTRIES = {group: entries_of(group) for group in GROUPS}
 # The types that hold pairs, each with those of our traits that it has.
 STORES = {}
@@ -167,23 +160,13 @@ def is_told(group, word, far, above):
     return word.name in pinned or near and word not in OF_MANY
 
 
-def parameters(head):
-    """The generic parameters of an impl, with their bounds."""
-    return re.findall(r"(?<!')\b\w+: (?:[^<>,]|<(?:[^<>]|<[^<>]*>)*>)+", head) if head.startswith("impl<") else []
-
-
-def types_with(bound):
-    """The types of the libraries that have each of our traits in a bound."""
-    traits = [it for it in re.findall(r"\w+", re.sub(r"<[^>]*>", "", bound)) if it in TRAITS]
-    return [name for name in STORES if all(trait in STORES[name] for trait in traits)] if traits else []
-
-
 def bounds_text(call):
     """The bounds of a call's impl, if they are more than the usual ones, and the stores that meet them."""
-    told = []
-    for bound in (it for it in parameters(call.outer) if it not in USUAL):
-        stores = types_with(bound.partition(": ")[2]) if bound.startswith("S: ") else []
-        told.append(f"`{bound}`" + (f" (over {', '.join(f'`{it}`' for it in stores)})" if stores else ""))
+    told, head = [], call.outer if call.outer.startswith("impl<") else ""
+    for bound in re.findall(r"(?<!')\b\w+: (?:[^<>,]|<(?:[^<>]|<[^<>]*>)*>)+", head):
+        traits = {*re.findall(r"\w+", re.sub(r"<[^>]*>", "", bound))} & {*TRAITS} if bound.startswith("S: ") else ()
+        stores = [f"`{store}`" for store, its in STORES.items() if traits and traits <= {*its}]
+        told += [f"`{bound}`" + (f" (over {', '.join(stores)})" if stores else "")] if bound not in USUAL else []
     return f"Bounds: {', '.join(told)}.\n\n" if told else ""
 
 
@@ -243,7 +226,10 @@ def page_text(group):
     text = f"# {group}\n\n{START}\n{HEAD}" if ENTRIES[group] else f"# {group}\n\n{START}\n"
     text += f"The words of [{BELOW[group]}]({slug(BELOW[group])}.md) are explained there.\n\n" if group in BELOW else ""
     text += "".join(entry(it, group, above) for it in ENTRIES[group])
-    types = [it for it in types_of(group) if it not in OF_MANY and it not in above]
+    # The other types and traits that the sources of the group export.
+    paths = {f"{source.replace('/', '/src/', 1)}.rt": source for source in sources_of(group)}
+    types = [it for it in dict.fromkeys(WORDS.values()) if it.kind in TYPES and it.path in paths and it not in (*OF_MANY, *above)]
+    types = [it for it in types if exported(it.path.split("/")[0])(paths[it.path], it.name)]
     text += listed("Other types", types, page)
     impls = "\n".join(impls_text(group))
     text += f"## Traits of others\n\n{block(impls)}" if impls else ""
@@ -263,8 +249,3 @@ def index_text():
         text += f"\nTraits of others: {', '.join(traits)}.\n" if traits else ""
     text = re.sub(r"\n{3,}", "\n\n", text)
     return f"{text}\n## Words of many groups\n\n" + "".join(told(it, INDEX) for it in OF_MANY) + END
-
-
-def pages():
-    """The pages of all groups, by their paths."""
-    return {page_of(group): page_text(group) for group in GROUPS}

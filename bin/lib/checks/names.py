@@ -54,12 +54,6 @@ def is_link(page, target):
     return (TOP / path).exists() and (not anchor or anchor in [slug(it.text) for it in BLOCKS.get(path, ()) if it.kind == "head"])
 
 
-def own_text(block):
-    """The text of a block, without a table's column about other libraries."""
-    rows = block.rows() if block.kind == "table" else []
-    return "\n".join(" ".join(row[1:]) for row in rows) if rows and {"Here", "Port"} & {*rows[0]} else block.text
-
-
 def owners():
     """The code of each file, crate and type, by its name, except those of tests."""
     found, types = collections.defaultdict(str), set()
@@ -88,7 +82,10 @@ def check(report, _):
             shape = re.compile(rf"\b(?:fn|def|struct|enum|trait|type) {word or other}\b|^ *[\w ]*\b{word or other} :", re.MULTILINE)
             has = any(shape.search(it.read_text(encoding="utf-8")) for it in files)
             report.see(has, f"{block.where}: {path or place} has no {word or other}")
-        for code in CODE.findall(own_text(block)):
+        # A table's column about other libraries is left out.
+        rows = block.rows() if block.kind == "table" else []
+        text = "\n".join(" ".join(row[1:]) for row in rows) if rows and {"Here", "Port"} & {*rows[0]} else block.text
+        for code in CODE.findall(text):
             for owner, name, names in re.findall(r"\b(\w+)::(?:(\w+)|\{([\w, ]*)\})", code):
                 for it in (name or names).split(", ") if owner in of else ():
                     report.see(re.search(rf"\b{it}\b", of[owner]), f"{block.where}: {owner} has no {it}")

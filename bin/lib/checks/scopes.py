@@ -82,12 +82,6 @@ def is_hidden(word):
     return not word.kind and any(name in private or INNER.match(scope.modules.get(name, "")) for name in names)
 
 
-def equations(word):
-    """The lemmas that are the equations of a hidden definition, as digits-zero, in the file that has it."""
-    lemma = rf"^ *pub {re.escape(word.name)}-\w+ : (.*\b{re.escape(word.name)} .* ≡ .*)$"
-    return "\n".join(re.findall(lemma, (SPECS | RUST)[word.path], re.MULTILINE))
-
-
 def members_of(word):
     """The ghost members of our traits that a type has, with their values, except laws, which have no comment."""
     return {it: value for it, value in word.ghosts.items() if it in WORDS and WORDS[it].said and not it.endswith(f".{value}")}
@@ -121,5 +115,7 @@ def displayed(word):
     return re.sub(rf"\b(?:{'|'.join(aliases)})\.(?=[A-Z])", "", word.shown) if aliases else word.shown
 
 
-for it in WORDS.values():
-    it.shown = equations(it) if is_hidden(it) else it.shown
+# A hidden definition shows the lemmas that are its equations, as digits-zero, in the file that has it.
+for it in filter(is_hidden, WORDS.values()):
+    lemma = rf"^ *pub {re.escape(it.name)}-\w+ : (.*\b{re.escape(it.name)} .* ≡ .*)$"
+    it.shown = "\n".join(re.findall(lemma, (SPECS | RUST)[it.path], re.MULTILINE))

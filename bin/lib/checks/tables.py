@@ -21,12 +21,6 @@ def named_in(page, head):
     return {name for row in rows for name in CODE.findall(row[0])}
 
 
-def lines_in(page):
-    """The lines of crates.txt that a page shows, in its prose or in a block: the crate of each, and what it uses."""
-    shown = re.findall(r"`(\w+):((?: \w+)*)`|^ *(\w+):((?: \w+)*)$", TEXTS[page], re.MULTILINE)
-    return {name or below: (uses or more).split() for name, uses, below, more in shown if (name or below) in CRATES}
-
-
 def ratios(table):
     """The cells of a table of times, by title, row and column: the number in parentheses, or the cell itself."""
     (title, *columns), *rows = table.rows()
@@ -46,8 +40,10 @@ def check(report, _):
         for name in sorted(named | there):
             report.see(name in there, f"{where} names {name}, which is not there")
             report.see(name in named, f"{where} does not name {name}")
-    for page in TEXTS:
-        shown = lines_in(page)
+    for page, text in TEXTS.items():
+        # The lines of crates.txt that a page shows, in its prose or in a block: the crate of each, and what it uses.
+        found = re.findall(r"`(\w+):((?: \w+)*)`|^ *(\w+):((?: \w+)*)$", text, re.MULTILINE)
+        shown = {name or below: (uses or more).split() for name, uses, below, more in found if (name or below) in CRATES}
         for name, uses in shown.items():
             report.see(uses == CRATES[name], f"{page}: the line of {name} is not that of crates.txt")
             for used in [it for it in uses if it in CRATES]:

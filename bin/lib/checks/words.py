@@ -133,18 +133,13 @@ def rust_words(path, text):
             yield head, Word(path, line + 1, "member", name, head, said_above(lines[:line]), shown)
 
 
-def all_words():
-    """All words of the libraries: those of specs by their modules, as litemap.specs.Changes.Inserts, and those of sources."""
-    words = {}
-    for path, text in (SPECS | RUST).items():
-        crate, folder, rest = path.split("/", 2)
-        if crate in LIBRARIES and folder == "specs":
-            module = f"{crate}.specs.{rest.removesuffix('.antt').replace('/', '.')}"
-            words |= {f"{module}.{name}": it for it in spec_words(path, text) for name in it.names()}
-        elif crate in LIBRARIES and f"{crate}/{rest.removesuffix('.rt')}" not in NOT_LISTED:
-            # Of two items of one name it is the one below, in the order of crates.
-            words = dict(rust_words(path, text)) | words
-    return words
-
-
-WORDS = all_words()
+# All words of the libraries: those of specs by their modules, as litemap.specs.Changes.Inserts, and those of sources.
+WORDS = {}
+for path, text in (SPECS | RUST).items():
+    crate, folder, rest = path.split("/", 2)
+    if crate in LIBRARIES and folder == "specs":
+        module = f"{crate}.specs.{rest.removesuffix('.antt').replace('/', '.')}"
+        WORDS |= {f"{module}.{name}": it for it in spec_words(path, text) for name in it.names()}
+    elif crate in LIBRARIES and f"{crate}/{rest.removesuffix('.rt')}" not in NOT_LISTED:
+        # Of two items of one name it is the one below, in the order of crates.
+        WORDS = dict(rust_words(path, text)) | WORDS
