@@ -1,5 +1,6 @@
 """What the scripts in Python share: the crates, the text of --help, and how cases are counted."""
 import argparse
+import contextlib
 import functools
 import os
 import pathlib
@@ -9,6 +10,7 @@ import runpy
 import shutil
 import subprocess
 import sys
+import tempfile
 import threading
 
 TOP = pathlib.Path(__file__).resolve().parents[2]
@@ -31,13 +33,18 @@ def used_by(*names):
     return [*found]
 
 
-def copy_crates(room, *names, ignored=("out", "must-fail"), top=TOP):
-    """Copies these crates and those that they use into a folder, as a repository of its own."""
-    for name in used_by(*names):
-        shutil.copytree(top / "crates" / name, room / "crates" / name, ignore=shutil.ignore_patterns(*ignored))
-    lines = (top / "crates.txt").read_text().splitlines(keepends=True)
-    (room / "crates.txt").write_text("".join(line for line in lines if re.split("[: ]", line)[0] in used_by(*names)))
-    shutil.copy(top / "HANDLES", room)
+@contextlib.contextmanager
+def copied(*names, ignored=("out", "must-fail"), top=TOP, more=""):
+    """A temporary folder with these crates and those that they use, as a repository of its own, and more lines in its crates.txt."""
+    with tempfile.TemporaryDirectory() as folder:
+        room = pathlib.Path(folder)
+        for name in used_by(*names):
+            shutil.copytree(top / "crates" / name, room / "crates" / name, ignore=shutil.ignore_patterns(*ignored))
+        lines = (top / "crates.txt").read_text().splitlines(keepends=True)
+        kept = [line for line in lines if re.split("[: ]", line)[0] in used_by(*names)]
+        (room / "crates.txt").write_text("".join([*kept, more]))
+        shutil.copy(top / "HANDLES", room)
+        yield room
 
 
 def texts_in(folder):
