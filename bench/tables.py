@@ -36,11 +36,6 @@ def lines(names=ROWS):
     return "".join(f"{over} {name} {ROWS[name].call}\n" for name in names for over in ROWS[name].over.split(" "))
 
 
-def distinct(items):
-    """The items, each once, in the order of their first occurrences."""
-    return list(dict.fromkeys(items))
-
-
 def shown(picos):
     """Nanoseconds, with about two significant digits."""
     nanos = picos / 1000
@@ -74,9 +69,9 @@ def title(keys, store):
 def table_of(ours, theirs, keys, store):
     """The table of a type of keys and a store."""
     measures = [measure for measure in ours if (measure.keys, measure.store) == (keys, store)]
-    sizes = distinct(measure.size for measure in measures)
+    sizes = dict.fromkeys(measure.size for measure in measures)
     yield [f"{title(keys, store)}, pairs", *(f"{size:,}" for size in sizes)]
-    for row in distinct(measure.row for measure in measures):
+    for row in dict.fromkeys(measure.row for measure in measures):
         yield [ROWS[row].title, *(cell(ours, theirs, Measure(row, keys, store, size)) for size in sizes)]
 
 
@@ -88,24 +83,20 @@ def table_of_others(ours):
         yield [f"{ROWS[measure.row].title}, {measure.size:,} pairs", *cells]
 
 
-def held_cell(ours, theirs, measure):
-    """The bytes a pair at the peak, here and there: the clock advanced by a microsecond for each byte."""
-    founds = [ours[measure], found_there(theirs, measure)]
-    return " : ".join(f"{found.lowest() / 1_000_000:.0f}" for found in founds if found is not None)
-
-
 def table_of_bytes(ours, theirs):
-    """The table of bytes."""
+    """The table of bytes a pair at the peak, here and there: the clock advanced by a microsecond for each byte."""
     columns = [(keys, store) for keys in ("number", "text") for store in ("Vec", "ColumnStore")]
     there = " : there" if theirs else ""
     yield [f"Bytes a pair at the peak, here{there}, {HELD_SIZE:,} pairs", *(title(*column) for column in columns)]
     for row in HELD:
-        yield [ROWS[row].title, *(held_cell(ours, theirs, Measure(row, *column, HELD_SIZE)) for column in columns)]
+        measures = [Measure(row, *column, HELD_SIZE) for column in columns]
+        found = [filter(None, [ours[measure], found_there(theirs, measure)]) for measure in measures]
+        yield [ROWS[row].title, *(" : ".join(f"{it.lowest() / 1_000_000:.0f}" for it in both) for both in found)]
 
 
 def markdown(ours, theirs, held):
     """All tables, from the times of both programs, of which theirs may be empty, and the bytes of each."""
-    stores = distinct((measure.keys, measure.store) for measure in ours if measure.store not in OTHERS)
+    stores = dict.fromkeys((measure.keys, measure.store) for measure in ours if measure.store not in OTHERS)
     tables = [table_of(ours, theirs, *store) for store in stores]
     lines = []
     for head, *rows in [*tables, table_of_others(ours), table_of_bytes(*held)]:
