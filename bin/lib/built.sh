@@ -2,6 +2,20 @@
 # The caller sets `top`, the top of the repository.
 program=$top/crates/names_main/out/names_main
 
+# Prints the comment at the head of the caller for `--help`. Rejects any other word that the first argument doesn't list.
+take_options() {
+    local word
+    for word in "${@:2}"; do
+        if [ "$word" = --help ]; then
+            awk 'NR > 1 { if (!/^#/) exit; sub(/^# ?/, ""); print }' "$0"
+            exit 0
+        elif [[ " $1 " != *" $word "* ]]; then
+            echo "${0##*/}: it takes no word $word; --help says what it does" >&2
+            exit 2
+        fi
+    done
+}
+
 # Prints this crate and the libraries of the repository below it, each after the ones that it uses.
 with_libraries() { (cd -- "$top/bin" && python3 -B -c "from lib import shared; print(*shared.used_by('$1'), sep='\n')"); }
 

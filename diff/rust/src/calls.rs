@@ -1,25 +1,22 @@
 //! The calls that lines make.
 use crate::keys::{pair, pairs, text, Code, Key, Order, Pair, Value, CLONED};
 use litemap::Entry::{Occupied, Vacant};
-use litemap::{LiteMap, VacantEntry};
+use litemap::{LiteMap, OccupiedEntry};
 use std::mem::{replace, take};
 
 /// A map with keys of one type, whose calls are made.
 pub type Map = LiteMap<Key, Value>;
 
-/// The words after the name of a call.
+type There<'m> = OccupiedEntry<'m, Key, Value, Vec<(Key, Value)>>;
+
+/// The name of a call, and the words after it.
 pub struct Given<'w> {
     order: Order,
+    name: &'w str,
     words: Vec<&'w str>,
 }
 
 impl<'w> Given<'w> {
-    /// The words of a line.
-    pub fn new(order: Order, words: &'w str) -> Self {
-        let words = words.split(' ').filter(|word| !word.is_empty()).collect();
-        Given { order, words }
-    }
-
     fn key(&self) -> Key {
         Key::new(self.order, self.words[0])
     }
@@ -61,10 +58,12 @@ impl<'w> Given<'w> {
 }
 
 /// Makes a call, and returns its result.
-pub fn make(map: &mut Map, name: &str, given: &Given) -> String {
+pub fn make(map: &mut Map, order: Order, call: &str) -> String {
+    let mut words = call.split(' ').filter(|word| !word.is_empty());
+    let name = words.next().expect("a call");
     let found = CALLS.iter().find(|(names, _)| names.split(' ').any(|it| it == name));
     let (_, call) = found.unwrap_or_else(|| panic!("no call: {name}"));
-    call(map, given)
+    call(map, &Given { order, name, words: words.collect() })
 }
 
 /// Names of calls, and what makes them: what they return, as text.
@@ -120,34 +119,17 @@ const CALLS: &[Call] = &[
     ("insert insert_counted", |map, given| or_none(map.insert(given.key(), given.value()))),
     ("try_insert", |map, given| back(map.try_insert(given.key(), given.value()))),
     ("try_append", |map, given| back(map.try_append(given.key(), given.value()))),
-    ("try_get_or_insert", |map, given| try_get(map, given, Ok(given.value()), true)),
-    ("try_get_or_fail", |map, given| try_get(map, given, Err(given.value()), true)),
-    ("try_find_or_insert", |map, given| try_get(map, given, Ok(given.value()), false)),
-    ("try_find_or_fail", |map, given| try_get(map, given, Err(given.value()), false)),
+    ("try_get_or_insert try_find_or_insert", |map, given| try_get(map, given, Ok(given.value()))),
+    ("try_get_or_fail try_find_or_fail", |map, given| try_get(map, given, Err(given.value()))),
     ("entry", |map, given| match map.entry(given.key()) {
         Occupied(entry) => format!("occupied {}", entry.key().code),
         Vacant(entry) => format!("vacant {}", entry.key().code),
     }),
-    ("entry_get", |map, given| match map.entry(given.key()) {
-        Occupied(entry) => entry.get().to_string(),
-        Vacant(_) => "vacant".to_string(),
-    }),
-    ("entry_remove", |map, given| match map.entry(given.key()) {
-        Occupied(entry) => entry.remove().to_string(),
-        Vacant(_) => "vacant".to_string(),
-    }),
-    ("entry_insert", |map, given| match map.entry(given.key()) {
-        Occupied(mut entry) => entry.insert(given.value()).to_string(),
-        Vacant(entry) => fill(entry, given),
-    }),
-    ("entry_get_mut", |map, given| match map.entry(given.key()) {
-        Occupied(mut entry) => given.replace(entry.get_mut()),
-        Vacant(entry) => fill(entry, given),
-    }),
-    ("entry_into_mut", |map, given| match map.entry(given.key()) {
-        Occupied(entry) => given.replace(entry.into_mut()),
-        Vacant(entry) => fill(entry, given),
-    }),
+    ("entry_get", |map, given| in_entry(map, given, |entry| entry.get().to_string(), false)),
+    ("entry_remove", |map, given| in_entry(map, given, |entry| entry.remove().to_string(), false)),
+    ("entry_insert", |map, given| in_entry(map, given, |mut entry| entry.insert(given.value()).to_string(), true)),
+    ("entry_get_mut", |map, given| in_entry(map, given, |mut entry| given.replace(entry.get_mut()), true)),
+    ("entry_into_mut", |map, given| in_entry(map, given, |entry| given.replace(entry.into_mut()), true)),
     ("or_default", |map, given| given.write(map.entry(given.key()).or_default(), 1)),
     ("or_insert", |map, given| given.write(map.entry(given.key()).or_insert(given.value()), 2) + " asked 0"),
     ("or_insert_with", |map, given| {
@@ -211,13 +193,9 @@ const CALLS: &[Call] = &[
         or_none(left.map(|left| format!("left {}", text(pairs(&left)))))
     }),
     ("extend_with extend_with_counted", |map, given| combine(map, given.map())),
-    ("keep_keys_of", |map, given| {
+    ("keep_keys_of remove_keys_of", |map, given| {
         let other = given.map();
-        ok(map.retain(|key, _| other.contains_key(key)))
-    }),
-    ("remove_keys_of", |map, given| {
-        let other = given.map();
-        ok(map.retain(|key, _| !other.contains_key(key)))
+        ok(map.retain(|key, _| other.contains_key(key) == (given.name == "keep_keys_of")))
     }),
     ("is_subset is_subset_counted", |map, given| {
         let other = given.map();
@@ -287,23 +265,27 @@ fn back(back: Option<(Key, Value)>) -> String {
 }
 
 /// `try_get_or_insert`, with the value or without it.
-fn try_get(map: &mut Map, given: &Given, made: Result<Value, Value>, with_value: bool) -> String {
+fn try_get(map: &mut Map, given: &Given, made: Result<Value, Value>) -> String {
     let mut times = 0;
     let found = map.try_get_or_insert(given.key(), |_| {
         times += 1;
         made
     });
     let result = match found {
-        Ok((index, value)) if with_value => format!("{index} {value}"),
+        Ok((index, value)) if given.name.contains("get") => format!("{index} {value}"),
         Ok((index, _)) => index.to_string(),
         Err(error) => format!("closure {error}"),
     };
     format!("{result} asked {times}")
 }
 
-/// Inserts the value into a vacant entry, and writes another one, if there is one.
-fn fill(entry: VacantEntry<Key, Value, Vec<(Key, Value)>>, given: &Given) -> String {
-    given.write(entry.insert(given.value()), 2)
+/// A call of an occupied entry. The value may be inserted into a vacant one, and another one written, if there is one.
+fn in_entry(map: &mut Map, given: &Given, call: impl FnOnce(There) -> String, is_filled: bool) -> String {
+    match map.entry(given.key()) {
+        Occupied(entry) => call(entry),
+        Vacant(entry) if is_filled => given.write(entry.insert(given.value()), 2),
+        Vacant(_) => "vacant".to_string(),
+    }
 }
 
 /// Puts the pairs of another map in one by one: a value that is there already becomes three times that, the new one, what the

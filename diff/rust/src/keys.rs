@@ -48,7 +48,7 @@ impl Display for Code {
     }
 }
 
-/// Gives a type the order of one of its parts.
+/// Gives a type the order of one of its parts, and puts clones of it into boxes.
 macro_rules! order_by {
     ($type:ty, $part:tt) => {
         impl PartialEq for $type {
@@ -68,6 +68,12 @@ macro_rules! order_by {
         impl Ord for $type {
             fn cmp(&self, other: &Self) -> Ordering {
                 self.$part.cmp(&other.$part)
+            }
+        }
+
+        impl From<&$type> for Box<$type> {
+            fn from(lent: &$type) -> Self {
+                Box::new(lent.clone())
             }
         }
     };
@@ -126,18 +132,6 @@ impl Clone for Value {
     fn clone(&self) -> Self {
         CLONED.set(CLONED.get() + self.1 as u64);
         Value(self.0, self.1)
-    }
-}
-
-impl From<&Key> for Box<Key> {
-    fn from(key: &Key) -> Self {
-        Box::new(key.clone())
-    }
-}
-
-impl From<&Value> for Box<Value> {
-    fn from(value: &Value) -> Self {
-        Box::new(value.clone())
     }
 }
 

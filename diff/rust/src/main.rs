@@ -3,15 +3,14 @@
 mod calls;
 mod keys;
 
-use calls::{Given, Map};
+use calls::Map;
 use keys::{pairs, text, Order};
 use std::io::{self, Write};
 
 /// Makes a call, and returns its result and what it leaves.
 fn make(map: &mut Map, order: Order, call: &str) -> String {
-    let (name, words) = call.split_once(' ').unwrap_or((call, ""));
     let before = pairs(map);
-    let result = calls::make(map, name, &Given::new(order, words));
+    let result = calls::make(map, order, call);
     let after = pairs(map);
     let left = if before == after { "same".to_string() } else { text(after) };
     format!("{result} | {left}")
