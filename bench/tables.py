@@ -67,7 +67,6 @@ def title(keys, store):
 
 
 def table_of(ours, theirs, keys, store):
-    """The table of a type of keys and a store."""
     measures = [measure for measure in ours if (measure.keys, measure.store) == (keys, store)]
     sizes = dict.fromkeys(measure.size for measure in measures)
     yield [f"{title(keys, store)}, pairs", *(f"{size:,}" for size in sizes)]

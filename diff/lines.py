@@ -32,8 +32,6 @@ def word(order, number):
 
 
 class Run:
-    """A run of calls."""
-
     def __init__(self, seed, number):
         self.random = random.Random(f"{seed} {number}")
         self.order, self.store = ORDERS[number % len(ORDERS)], STORES[number // len(ORDERS) % len(STORES)]
@@ -41,25 +39,20 @@ class Run:
         self.calls = []
         groups = CALLS_OVER[self.store]
         for group in self.random.choices(groups, [group.often for group in groups], k=LENGTH):
-            self.add(self.random.choice(group.names), group.words)
+            name = self.random.choice(group.names)
+            if group.words == ["ALIKE"]:
+                given = self.pairs()
+                self.calls.append(" ".join(["from_vec", *given]))
+                given = self.changed(given)
+            else:
+                given = [self.given(kind) for kind in group.words]
+            self.calls.append(" ".join([name, *given]).rstrip())
         del self.calls[LENGTH:]
 
     def below(self, limit):
-        """Picks a number below this one."""
         return int(self.random.random() * limit)
 
-    def add(self, name, words):
-        """Adds a call with words of these kinds."""
-        if words == ["ALIKE"]:
-            given = self.pairs()
-            self.calls.append(" ".join(["from_vec", *given]))
-            given = self.changed(given)
-        else:
-            given = [self.given(kind) for kind in words]
-        self.calls.append(" ".join([name, *given]).rstrip())
-
     def given(self, kind):
-        """Picks the words of a kind."""
         if kind == "KEY":
             return word(self.order, self.below(self.range))
         if kind == "PLACE":

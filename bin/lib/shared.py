@@ -98,7 +98,6 @@ def edited(texts, body):
 
 @functools.cache
 def kit():
-    """The folder of the kit."""
     return pathlib.Path(subprocess.run(["rt", "doc"], capture_output=True, text=True, check=True).stdout.strip()).parent
 
 

@@ -2,6 +2,7 @@
 
 The replies come from a plain model, a dictionary that is sorted when all pairs are wanted, and never from the program itself.
 """
+import json
 import pathlib
 import re
 
@@ -15,18 +16,13 @@ SHAPES = {name: re.compile(name.encode() + rb" ([!-~]+)" * count) for name, coun
           {"put": 2, "get": 1, "del": 1, "find": 1, "all": 0, "json": 0}.items()}
 
 
-def quoted(text):
-    """A string of graphic bytes as JSON."""
-    return b'"' + text.replace(b"\\", b"\\\\").replace(b'"', b'\\"') + b'"'
-
-
 def answer(names, kind, words):
     """The reply to a line that is not bad, which is carried out on the names."""
     if kind == "all":
         return b"".join(key + b" " + names[key] + b"\n" for key in sorted(names))
     if kind == "json":
-        members = b",".join(quoted(key) + b":" + quoted(names[key]) for key in sorted(names))
-        return b"{" + members + b"}\n" if names else b"[]\n"
+        pairs = {key.decode(): names[key].decode() for key in sorted(names)}
+        return json.dumps(pairs or [], separators=(",", ":")).encode() + b"\n"
     old = names.get(words[0])
     if kind == "find":
         return b"%s %d\n" % (b"err" if old is None else b"ok", sum(name < words[0] for name in names))

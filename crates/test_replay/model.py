@@ -103,7 +103,6 @@ class Model:
         self.code = int if order in ("number", "falling") else lambda word: int.from_bytes(word.encode().ljust(8, b"\0"), "big")
 
     def text(self, pairs):
-        """The text of pairs in a line."""
         pairs = list(pairs)
         if len(pairs) <= 6:
             return " ".join(f"{key}:{value}" for key, value in pairs) or "-"
@@ -441,7 +440,6 @@ class Model:
         return self.of_pairs(name, self.given(words))
 
     def of_pairs(self, name, pairs):
-        """Makes a call that is given pairs."""
         if name in (*MAKES, "lm_sort_from_iter", "lm_sort_from_vec"):
             cost = Model(self.order).cost(pairs)
             self.pairs = self.last(pairs)
@@ -1055,7 +1053,6 @@ WORDS = {
 
 
 def picked_call(generator, order):
-    """A call that a generator picks."""
     key, value, kind = generator.pick(WORDS[order]), generator.below(1000), generator.below(50)
     if kind < 24:
         return f"{generator.pick(PUTS + ENTERING)} {key} {value}"
@@ -1138,7 +1135,6 @@ def written(made):
 
 
 def files():
-    """All lines."""
     return written({name: list(lines()) for name, lines in FILES.items()})
 
 

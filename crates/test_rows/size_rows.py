@@ -35,7 +35,6 @@ class Map:
         self.__init__(self.has_values, [(key, value) for key, value in self.values.items() if key not in keys])
 
     def make(self, call, first, given):
-        """Makes a call: what it tells."""
         keys, pairs = given, [(key, key + 1) for key in given]
         if call in COPIES:
             return self.sum()
@@ -87,7 +86,6 @@ class Map:
 
 
 def pairs(length):
-    """The pairs of a map."""
     return [(key, key) for key in range(FIRST, FIRST + 2 * length, 2)]
 
 
@@ -100,7 +98,6 @@ def looked_up(has_values, length):
 
 @functools.cache
 def answer(has_values, call, length, first, count, step):
-    """The output of a row."""
     given = [first + place * step for place in range(count)]
     if call in LOOKS:
         made, total = looked_up(has_values, length)
@@ -143,7 +140,6 @@ def swept(length):
 
 
 def calls(kind):
-    """The calls of a kind of pairs."""
     lengths = WIDE if kind.startswith("wide") else LENGTHS
     calls = [it for length in lengths for it in some(length)]
     calls += [(call, length) for length in lengths if length not in (100, 129, 513) for call in COPIES]

@@ -106,7 +106,6 @@ def indexed(pairs):
 
 
 def listed(words, pairs):
-    """These words, and the pairs after them."""
     return f"{words}:" + "".join(f" {key}={value}" for key, value in pairs)
 
 
@@ -294,7 +293,6 @@ def ascii_lines():
 
 
 def of_keys(word, keys):
-    """A word before each of these keys."""
     return [f"{word} {key}" for key in keys]
 
 

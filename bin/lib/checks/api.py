@@ -7,7 +7,7 @@ from lib.checks.pages import BLOCKS, CODE, TEXTS, read
 from lib.checks.scopes import NAME, SCOPES, names_in
 from lib.checks.sources import CALLS, IMPLS, NOT_LISTED, example_of
 from lib.checks.words import WORDS
-from lib.shared import TOP
+from lib.shared import TOP, write_files
 
 sys.path.append(str(TOP / "diff"))
 import table
@@ -18,23 +18,17 @@ SHOWN = ["litemap"]
 OF_RUST = "Some None Ok Err Option Result Bool true false String List ℕ ⊤ Data Type".split()
 
 
-def write_pages(texts):
-    """Writes these pages, by their paths, and removes the pages of other groups."""
-    for page in {it for it in TEXTS if it.startswith("docs/api/")} - {*texts}:
-        (TOP / page).unlink()
-        del TEXTS[page], BLOCKS[page]
-    for page, text in texts.items():
-        (TOP / page).parent.mkdir(exist_ok=True)
-        (TOP / page).write_text(text, encoding="utf-8")
-        read(page)
-
-
 def see_pages(report, write):
-    """Compares the pages with what the sources make of them; with `write` they are written first."""
+    """Compares the pages with what the sources make of them; with `write` they are written first, and those of no group removed."""
     before, _, rest = TEXTS[INDEX].partition(START)
     texts = {INDEX: before + index_text() + rest.partition(END)[2], **{page_of(it): page_text(it) for it in GROUPS}}
     if write:
-        write_pages(texts)
+        for page in {it for it in TEXTS if it.startswith("docs/api/")} - {*texts}:
+            (TOP / page).unlink()
+            del TEXTS[page], BLOCKS[page]
+        write_files(TOP, texts)
+        for page in texts:
+            read(page)
     for page in sorted({*texts, *(it for it in TEXTS if it.startswith("docs/api/"))}):
         told = f"{page} has other calls, contracts, words or lines than the sources: bin/check api --write writes it"
         report.see(texts.get(page) == TEXTS.get(page), told)

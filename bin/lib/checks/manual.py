@@ -60,13 +60,11 @@ CLAUSE = re.compile(r"\b(?:requires|ensures\*?)(?: \w+)? (?=\{)")
 
 
 def sources_of(group):
-    """The sources of a group."""
     parts = [part.split(": ") for part in GROUPS[group].split("; ")]
     return [f"{library}/{name}" for library, names in parts for name in names.split()]
 
 
 def page_of(group):
-    """The page of a group."""
     return f"docs/api/{slug(group)}.md"
 
 
@@ -206,12 +204,6 @@ def listed(title, words, page):
     return f"## {title}\n\n{text}\n" if text else ""
 
 
-def impls_text(group):
-    """The heads of the impls of others' traits in the sources of a group, each after its comment, with what iterators return."""
-    for head, _, said, gives in (it for source in sources_of(group) for it in IMPLS.get(source, ())):
-        yield from (*textwrap.wrap(said, 120, initial_indent="/// ", subsequent_indent="/// "), head, *(f"    {it}" for it in gives))
-
-
 def explained(group):
     """A link to what the page of a group explains, by word."""
     above, page = {}, f"{slug(group)}.md"
@@ -221,7 +213,6 @@ def explained(group):
 
 
 def page_text(group):
-    """The page of a group."""
     page, above = page_of(group), explained(BELOW[group]) if group in BELOW else {}
     text = f"# {group}\n\n{START}\n{HEAD}" if ENTRIES[group] else f"# {group}\n\n{START}\n"
     text += f"The words of [{BELOW[group]}]({slug(BELOW[group])}.md) are explained there.\n\n" if group in BELOW else ""
@@ -231,8 +222,13 @@ def page_text(group):
     types = [it for it in dict.fromkeys(WORDS.values()) if it.kind in TYPES and it.path in paths and it not in (*OF_MANY, *above)]
     types = [it for it in types if exported(it.path.split("/")[0])(paths[it.path], it.name)]
     text += listed("Other types", types, page)
-    impls = "\n".join(impls_text(group))
-    text += f"## Traits of others\n\n{block(impls)}" if impls else ""
+    impls = []
+    # The heads of the impls of others' traits, each after its comment, with what iterators return.
+    for head, _, said, gives in (it for source in sources_of(group) for it in IMPLS.get(source, ())):
+        impls += textwrap.wrap(said, 120, initial_indent="/// ", subsequent_indent="/// ")
+        impls += [head, *(f"    {it}" for it in gives)]
+    lines = "\n".join(impls)
+    text += f"## Traits of others\n\n{block(lines)}" if impls else ""
     text += listed("Words of these definitions", USED[group] - {*OF_MANY, *above, *types}, page)
     return re.sub(r"\n{3,}", "\n\n", text).rstrip("\n") + "\n"
 

@@ -19,14 +19,12 @@ WORD_IN = re.compile(r"`([\w./]*\.\w+|\w+/\w+)`\s`(\w+)`|`(\w+)` in\s`([\w./]*\.
 CODE_OF = {path: re.sub(r"^ *(?://|--).*", "", text, flags=re.MULTILINE) for path, text in (RUST | SPECS | PROOFS).items()}
 
 
-def all_paths():
-    """The files and folders from the top of the repository."""
-    for folder, folders, files in os.walk(TOP):
-        folders[:] = [it for it in folders if it not in (".git", "out")]
-        yield from (os.path.relpath(os.path.join(folder, name), TOP) for name in folders + files)
-
-
-PATHS = {path: path.replace("/src/", "/") for path in all_paths()}
+# The files and folders from the top of the repository, each also without `src/`.
+PATHS = {}
+for folder, folders, files in os.walk(TOP):
+    folders[:] = [it for it in folders if it not in (".git", "out")]
+    paths = [os.path.relpath(os.path.join(folder, name), TOP) for name in folders + files]
+    PATHS |= {path: path.replace("/src/", "/") for path in paths}
 
 
 @functools.cache
@@ -38,7 +36,6 @@ def found_at(path):
 
 
 def paths_of(block):
-    """The paths that a block names."""
     yield from FROM_TOP.findall(CODE.sub("", LINK.sub(r"\1", block.text)) if block.inside is None else block.text)
     for code in CODE.findall(block.text) if block.inside is None else ():
         yield from (it for it in re.split(r"[\s,;()|]+", code) if PATH.fullmatch(it))

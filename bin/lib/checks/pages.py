@@ -34,7 +34,6 @@ class Block:
 
 
 def blocks_of(page, text):
-    """The blocks of a page."""
     heading = ""
     for found in BLOCK.finditer(text):
         heading = found[0] if found["head"] else heading

@@ -91,7 +91,6 @@ def spec_word(path, lines, at, end, outer):
 
 
 def spec_words(path, text):
-    """The words of a specs file."""
     lines, modules, at = text.splitlines(), [], 0
     while at < len(lines):
         line, end = lines[at], at + 1
