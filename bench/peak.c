@@ -3,11 +3,6 @@
 // measure with a limited time ends after its first round.
 typedef unsigned long size_t;
 
-struct timespec {
-    long seconds;
-    long nanos;
-};
-
 void *__libc_malloc(size_t size);
 void *__libc_calloc(size_t many, size_t size);
 void *__libc_realloc(void *block, size_t size);
@@ -45,11 +40,12 @@ void free(void *block) {
     __libc_free(block);
 }
 
-int clock_gettime(int clock, struct timespec *time) {
+// The time is written as seconds and nanoseconds.
+int clock_gettime(int clock, long time[2]) {
     (void)clock;
     told += peak - last;
     last = peak = held;
-    time->seconds = told / 1000000;
-    time->nanos = told % 1000000 * 1000;
+    time[0] = told / 1000000;
+    time[1] = told % 1000000 * 1000;
     return 0;
 }

@@ -602,8 +602,9 @@ STEPS |= {"try_insert": ("try_insert", "Back"), "try_append": ("try_append", "Ba
 STEPS |= {kind: (kind, "Done") for kind in ("clear", "extend", "reserve")}
 # The most pairs that a vector puts in one by one.
 FEW = 16
-LOOK_UPS = {"find_index", "find_index_counted", "find_index_by", "lm_binary_search_by", "contains_key", "get_key_value"}
-LOOK_UPS |= {"get", "get_counted", "get_by", "index", "get_mut", "get_mut_by", "index_mut"}
+# The groups of lookups, and all that look a key up.
+LOOKING = ["get", "get_pair", "get_more", "find", "index"]
+LOOK_UPS = {*named(*LOOKING, "write"), "lm_binary_search_by"}
 PUTS, ENTERING = named("put", "put_at", "find_or_put", "find_or_fail"), named("enter")
 ENTRIES, TWICE = [*ENTERING, *named("enter_default", "enter_key", "enter_out", "enter_text")], named("enter_twice")
 EXTENDING, MAKING = ["extend", "extend_of_vec"], ["make", "make_of_vec"]
@@ -613,8 +614,7 @@ MERGES, COMBINES, BESIDE, READS, RUNS, RENAMES = map(named, ("merge", "combine",
 # The calls whose first word is a key that is searched for.
 TAKES = named("take", "take_pair")
 KEYED = {*LOOK_UPS, *PUTS, *ENTRIES, *TWICE, *TAKES, "split_off"}
-# The groups of lookups, of calls with a pair, and of those that take a key out.
-LOOKING = ["get", "get_pair", "get_more", "find", "index"]
+# The groups of calls with a pair, and of those that take a key out.
 PAIRED, TAKING = ["put", "put_at", "find_or_put", "find_or_fail", "enter"], ["take", "take_pair"]
 # The number of clones that each conversion makes of a pair.
 CONVERSIONS = {"try_clone": 2, "cloned": 2, "to_boxed_keys_values": 2, "to_boxed_keys": 2, "to_boxed_values": 2, "to_keys_by": 1}
@@ -755,17 +755,10 @@ def inputs(length):
     end = 2 * length
     yield ""
     for count in (1, 2, 5, 17, 40):
-        yield f"{end + 1},{count},1"
-        yield f"{end + 1 + 3 * count},{count},-3"
-        yield f"1,{count},2"
-        yield f"2,{count},2"
-        yield f"{max(end - 2 * count, 0)},{count},1"
-    yield f"{end},1,1"
-    yield f"{end + 1},3,1 {end + 1},3,1"
-    yield f"{end + 5},1,1 {end + 3},1,1 {end + 5},1,1"
-    yield f"1,30,7 3,30,5"
-    yield f"{end + 2},1,1 1,1,1"
-    yield "5,9,0"
+        yield from (f"{end + 1},{count},1", f"{end + 1 + 3 * count},{count},-3")
+        yield from (f"{first},{count},{step}" for first, step in ((1, 2), (2, 2), (max(end - 2 * count, 0), 1)))
+    yield from (f"{end},1,1", f"{end + 1},3,1 {end + 1},3,1", f"{end + 5},1,1 {end + 3},1,1 {end + 5},1,1")
+    yield from ("1,30,7 3,30,5", f"{end + 2},1,1 1,1,1", "5,9,0")
 
 
 def astray(length):
@@ -1100,15 +1093,17 @@ def rows():
 OF_MAPS = {"lm_alloc", "lm_columns", "lm_columns_mut", "lm_get_range", "lm_into_iter", "lm_iter", "lm_size_hint"}
 
 
-def judged():
-    """The calls that lines have to make: those of the tables of calls that diff makes or lines alone judge, and those of stores."""
+def faults(files):
+    """A message for each call that no line makes."""
+    # The calls that lines have to make: those of the tables of calls that diff makes or lines alone judge, and those of stores.
     names = {*GROUP_OF}
     for row in table_of("beside.txt"):
         names |= {*row.partition(" | ")[0].rpartition("::")[2].split(" ")} if "lines of data" in row else set()
     for source in ("store", "into_iter"):
         text = (FOLDER.parent / "litemap_store" / "src" / f"{source}.rt").read_text(encoding="utf-8")
         names |= {*re.findall(r"^    (?:final )?fn (lm_\w+)", text, re.MULTILINE)}
-    return names - OF_MAPS
+    made = {found for text in files.values() for found in re.findall(r"^(?:\+ )?(\w+)(?= .*= )", text, re.MULTILINE)}
+    return [f"no line makes {call}" for call in sorted(names - OF_MAPS - made)]
 
 
 MAKERS = [looks, walks, changes, bulk, stores, scattered, refusable, merged, beside, twenty, picked, rows, renamed, combined, listed]
@@ -1168,9 +1163,3 @@ def sample(files):
     rows, *others = (files[f"data/{name}.calls"].splitlines() for name in ("rows", *SAMPLED))
     parts = [[f"# {name}", *sampled(lines)] for name, lines in zip(SAMPLED, others)]
     return written({"rows": rows, "sample": list(itertools.chain.from_iterable(parts))})
-
-
-def faults(files):
-    """A message for each call that no line makes."""
-    made = {found for text in files.values() for found in re.findall(r"^(?:\+ )?(\w+)(?= .*= )", text, re.MULTILINE)}
-    return [f"no line makes {call}" for call in sorted(judged() - made)]
