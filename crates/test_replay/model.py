@@ -340,7 +340,10 @@ class Model:
             key, value = self.remove(place) if there else (None, "none")
             return f"{key}:{value}" if name == "remove_entry" and there else str(value)
         if name in RENAMES:
-            return self.rename(*words)
+            value, cost = self.make(f"remove {words[0]}")
+            if value == "none":
+                return "false", cost
+            return "true", cost + self.make(f"insert {words[1]} {value}")[1]
         if name in ("pop_first", "pop_last", "lm_remove"):
             index = {"pop_first": 0, "pop_last": -1}.get(name) if name != "lm_remove" else int(words[0])
             return self.text([self.remove(index)]) if self.pairs else "none"
@@ -359,12 +362,6 @@ class Model:
             self.pairs = [(key, value + int(words[0]) + place) for place, (key, value) in enumerate(self.pairs)]
             return str(len(self.pairs))
         return None
-
-    def rename(self, key, new_key):
-        value, cost = self.make(f"remove {key}")
-        if value == "none":
-            return "false", cost
-        return "true", cost + self.make(f"insert {new_key} {value}")[1]
 
     def walk(self, name, words):
         if name in ("iter", "keys", "values"):
@@ -456,7 +453,10 @@ class Model:
         if name in (*MERGES, "extend_from_clone"):
             return self.merge(self.last(pairs) if name in MERGES else self.pairs)
         if name in COMBINES:
-            return self.combine(self.last(pairs))
+            there, pairs = {self.rank(key) for key, _ in self.pairs}, self.last(pairs)
+            asked, searches = sum(self.rank(key) in there for key, _ in pairs), sum(self.search(key) for key, _ in pairs)
+            answer, cost = self.merge(self.combined(pairs))
+            return f"{answer} asked {asked}", cost + searches
         if name in BESIDE:
             return self.beside(name, self.last(pairs))
         if name in ("lm_extend_end", "lm_extend_start"):
@@ -514,12 +514,6 @@ class Model:
                 asked += 1
             new.append((key, value))
         return new
-
-    def combine(self, pairs):
-        there = {self.rank(key) for key, _ in self.pairs}
-        asked, searches = sum(self.rank(key) in there for key, _ in pairs), sum(self.search(key) for key, _ in pairs)
-        answer, cost = self.merge(self.combined(pairs))
-        return f"{answer} asked {asked}", cost + searches
 
     def beside(self, name, pairs):
         theirs, left, cost, found, old = [self.rank(key) for key, _ in pairs], 0, 0, [], len(self.pairs)
@@ -1111,21 +1105,21 @@ FILES = {it.__name__: it for it in [*MAKERS, grown, roomy, sliced, swept, long]}
 
 
 def calls_of(lines):
-    """The number of calls that lines make, over all their stores."""
-    made = stores = 0
+    """The lines that make a call, each with its stores, and with the line that says what it begins with."""
     for text in lines:
         if text.startswith("on "):
-            stores = len(text.split(" ")) - 1
+            stores = text[3:].split(" ")
+        elif text.startswith("with "):
+            begins = text
         elif " = " in text:
-            made += stores
-    return made
+            yield stores, begins, text
 
 
 def written(made):
     """The files of the crate, by their names, of these lines of each."""
     files = {f"data/{name}.calls": lines for name, lines in made.items()}
     files["stdin"] = [f"{name}.calls" for name in made]
-    files["stdout"] = [f"{name}.calls: {calls_of(lines)} calls" for name, lines in made.items()]
+    files["stdout"] = [f"{name}.calls: {sum(len(it[0]) for it in calls_of(lines))} calls" for name, lines in made.items()]
     return {name: "".join(text + "\n" for text in lines) for name, lines in files.items()}
 
 
