@@ -86,12 +86,9 @@ def whole_numbers():
     """Each type's least and greatest value and one past each, as names, as keys in pairs, and as items."""
     for what, (least, most) in WHOLE.items():
         for number in (least, least + 1, most - 1, most):
-            yield what, f'{{"{number}":{number}}}', None
-            yield what, f"[[{number},{number}]]", None
+            yield from ((what, text % (number, number), None) for text in ('{"%d":%d}', "[[%d,%d]]"))
         for number in (least - 1, most + 1):
-            yield what, f'{{"{number}":1}}', "data"
-            yield what, f'{{"1":{number}}}', "data"
-            yield what, f"[[{number},1]]", "data"
+            yield from ((what, text % number, "data") for text in ('{"%d":1}', '{"1":%d}', "[[%d,1]]"))
 
 
 def wrong_types():
@@ -106,9 +103,7 @@ def wrong_types():
             # A name that isn't a number is a syntax error, as in the Rust crate.
             fault = "syntax" if bad in ('"x":"a"', '"":"a"') else "data"
             yield "words", "{" + ",".join([*members[:place], bad, *members[place + 1:]]) + "}", fault
-    for what in ("words", "text", "bool", "nested"):
-        for bad in ("7", "1.5", "true", "null", '"x"'):
-            yield what, bad, "data"
+    yield from ((what, bad, "data") for what in "words text bool nested".split() for bad in ("7", "1.5", "true", "null", '"x"'))
     for what, bad in (("bool", '{"True":true}'), ("bool", '{"true":1}'), ("char", '{"ab":"c"}'), ("char", '{"a":"bc"}'), ("levels", '{"Low":1}'),
                       ("f64", '{"a":"1"}'), ("option", '{"a":"x"}')):
         yield what, bad, "data"
