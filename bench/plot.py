@@ -25,24 +25,18 @@ def across(nanos):
     return LEFT + (math.log10(nanos) - LOWEST) / (HIGHEST - LOWEST) * (RIGHT - LEFT)
 
 
-def legend():
-    yield text(12, 20, "Nanoseconds a pair, u64 keys")
-    for number, (store, colour) in enumerate(COLOURS.items()):
-        x = LEFT + 105 * number
-        yield dot(x, 16, colour) + text(x + 10, 20, "LiteMap" if store == "Vec" else store)
-
-
-def scale(bottom):
-    for power in range(LOWEST, HIGHEST + 1):
-        x = across(10**power)
-        yield f'<line x1="{x:.0f}" y1="{TOP - 6}" x2="{x:.0f}" y2="{bottom}" stroke="#ddd"/>'
-        yield text(x, bottom + 16, f"{10 ** power:,g}", "middle")
-
-
 def times(ours):
     """The plot, from the measures of our program."""
     rows = [(row, title, size) for row, title in ROWS for size in SIZES]
-    drawn = [*legend(), *scale(TOP + ROW * len(rows))]
+    bottom = TOP + ROW * len(rows)
+    drawn = [f'<rect width="{WIDTH}" height="{HEIGHT}" fill="#fff"/>', text(12, 20, "Nanoseconds a pair, u64 keys")]
+    for number, (store, colour) in enumerate(COLOURS.items()):
+        x = LEFT + 105 * number
+        drawn.append(dot(x, 16, colour) + text(x + 10, 20, "LiteMap" if store == "Vec" else store))
+    for power in range(LOWEST, HIGHEST + 1):
+        x = across(10**power)
+        drawn.append(f'<line x1="{x:.0f}" y1="{TOP - 6}" x2="{x:.0f}" y2="{bottom}" stroke="#ddd"/>')
+        drawn.append(text(x, bottom + 16, f"{10 ** power:,g}", "middle"))
     for number, (row, title, size) in enumerate(rows):
         top = TOP + ROW * number
         drawn.append(text(12, top + 16, f"{title}, {size:,} pairs"))
@@ -51,5 +45,4 @@ def times(ours):
             # Each map is a little lower than the one before, so that no dot hides another.
             drawn.append(dot(across(nanos), top + 6 + 4 * place, colour))
     size = f'width="{WIDTH}" height="{HEIGHT}" viewBox="0 0 {WIDTH} {HEIGHT}"'
-    drawn.insert(0, f'<rect width="{WIDTH}" height="{HEIGHT}" fill="#fff"/>')
     return "\n".join([f'<svg xmlns="http://www.w3.org/2000/svg" {size}>', *drawn, "</svg>", ""])

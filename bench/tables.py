@@ -39,9 +39,7 @@ def lines(names=ROWS):
 def shown(picos):
     """Nanoseconds, with about two significant digits."""
     nanos = picos / 1000
-    if nanos < 1:
-        return f"{nanos:.2f}"
-    return f"{nanos:.1f}" if nanos < 10 else f"{nanos:,.0f}"
+    return f"{nanos:{'.2f' if nanos < 1 else '.1f' if nanos < 10 else ',.0f'}}"
 
 
 def found_there(theirs, measure):

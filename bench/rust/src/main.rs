@@ -31,19 +31,16 @@ fn pairs<K>(key: fn(u64) -> K, numbers: Numbers, first: u64, more: u64) -> Vec<(
     (0..numbers.len).map(|index| pair(numbers.at(first, index))).collect()
 }
 
-/// A case of a round. What is merged has other values than the map, and what is compared the same.
-fn make_case<K, M: Measured<K>>(key: fn(u64) -> K, row: &Row, first: u64) -> Case<K, M> {
-    Case {
+/// Makes a round: its time, and a number for the results and all maps after the calls.
+fn call_round<K, M: Measured<K>>(key: fn(u64) -> K, row: &Row, round: usize) -> (u128, u64) {
+    // What is merged has other values than the map, and what is compared the same.
+    let case_at = |first: u64| Case {
         map: M::made(pairs(key, row.map, first, 0)),
         given: pairs(key, row.given, first, 0),
         other: M::made(pairs(key, row.other, first, u64::from(row.call != "equal"))),
         asked: pairs(key, row.asked, first, 0),
-    }
-}
-
-/// Makes a round: its time, and a number for the results and all maps after the calls.
-fn call_round<K, M: Measured<K>>(key: fn(u64) -> K, row: &Row, round: usize) -> (u128, u64) {
-    let mut cases: Vec<Case<K, M>> = (0..row.cases()).map(|case| make_case(key, row, row.first(round, case))).collect();
+    };
+    let mut cases: Vec<Case<K, M>> = (0..row.cases()).map(|case| case_at(row.first(round, case))).collect();
     let start = nanos_used();
     let sum = M::call(row.call, &mut cases);
     let nanos = nanos_used() - start;
