@@ -4,10 +4,9 @@ import re
 import lines
 
 
-def rows(top):
+def rows():
     """Each call of ours, the calls of lines that make it, and what the table says about the Rust crate's."""
-    _, *table = (top / "crates" / "test_replay" / "calls" / "beside.txt").read_text().splitlines()
-    for ours, made, theirs in (row.split(" | ") for row in table):
+    for ours, made, theirs in (row.split(" | ") for row in lines.MODEL["table_of"]("beside.txt")):
         owner, colons, names = ours.rpartition("::")
         for name in names.split(" ") if colons else [ours]:
             yield f"{owner}{colons}{name}", made.replace("=", name).split(" "), theirs.replace("=", name)
@@ -30,7 +29,7 @@ def listed(top):
 
 def missing(top, crate=None):
     """What the table lacks of our calls and of the Rust crate's, and what it names that doesn't exist."""
-    table, calls = list(rows(top)), dict(listed(top))
+    table, calls = list(rows()), dict(listed(top))
     named = {ours for ours, _, _ in table}
     lacks = [f"{it}, which docs/api lists" for it, group in calls.items() if not {it, f"group {group}"} & named]
     theirs = set(re.findall(r"\bpub (?:const )?fn (\w+)", (crate / "src" / "map.rs").read_text() if crate else ""))

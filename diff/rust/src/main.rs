@@ -7,15 +7,6 @@ use calls::Map;
 use keys::{pairs, text, Order};
 use std::io::{self, Write};
 
-/// Makes a call, and returns its result and what it leaves.
-fn make(map: &mut Map, order: Order, call: &str) -> String {
-    let before = pairs(map);
-    let result = calls::make(map, order, call);
-    let after = pairs(map);
-    let left = if before == after { "same".to_string() } else { text(after) };
-    format!("{result} | {left}")
-}
-
 fn main() -> io::Result<()> {
     let input = io::read_to_string(io::stdin())?;
     let mut output = io::BufWriter::new(io::stdout());
@@ -31,8 +22,11 @@ fn main() -> io::Result<()> {
             if call == line {
                 map = Map::new();
             }
-            let made = make(&mut map, order, call);
-            writeln!(output, "input:{} {store} {call} = {made}", index + 1)?;
+            let before = pairs(&map);
+            let result = calls::make(&mut map, order, call);
+            let after = pairs(&map);
+            let left = if before == after { "same".to_string() } else { text(after) };
+            writeln!(output, "input:{} {store} {call} = {result} | {left}", index + 1)?;
         }
     }
     Ok(())
