@@ -35,7 +35,7 @@ def used_by(*names):
 
 @contextlib.contextmanager
 def copied(*names, ignored=("out", "must-fail"), top=TOP, more=""):
-    """A temporary folder with these crates and those that they use, as a repository of its own, and more lines in its crates.txt."""
+    """A temporary folder with these crates and those that they use, as a repository of its own, with more lines of crates.txt."""
     with tempfile.TemporaryDirectory() as folder:
         room = pathlib.Path(folder)
         for name in used_by(*names):
@@ -137,8 +137,8 @@ class Watched:
         self.timed = self.model.get("TIMED", "")
         self.given = given.replace(self.timed, "")
         options = ["-O1", "-shared", "-fPIC", "-nostdlib", "-fuse-ld=lld", "-fno-builtin"]
-        clang = kit() / "toolchain" / "bin" / "clang"
-        subprocess.run([clang, *options, "-o", self.library, TOP / "bin" / "lib" / "allocator.c"], check=True)
+        build = [kit() / "toolchain" / "bin" / "clang", *options, "-o", self.library, TOP / "bin" / "lib" / "allocator.c"]
+        subprocess.run(build, check=True)
 
     def run(self, before="", given=None, most=None, output=None, **more):
         """Runs the program on this text and then its input, or another one: the status, the lines of output, and the numbers of

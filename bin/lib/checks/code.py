@@ -28,8 +28,7 @@ def check(report, _):
     for block in (it for page, blocks in BLOCKS.items() if not page.startswith("docs/api/") for it in blocks):
         if block.language == "rust":
             report.see(stands_in(block.inside, [*RUST.values(), examples]), f"{block.where}: the block stands in no crate")
-    shown = [trimmed(text) for path, text in RUST.items() if SHOWN.fullmatch(path)]
-    shown.append(trimmed(examples))
+    shown = [trimmed(text) for text in [*(RUST[path] for path in RUST if SHOWN.fullmatch(path)), examples]]
     for path, text in RUST.items():
         for comment, block, is_item in examples_of(text):
             line = text.count("\n", 0, comment.start()) + 1

@@ -84,10 +84,8 @@ class Entry:
             clauses = CLAUSE.sub("", it.contract[len(it.head) :])
             names |= dict(scope.used(clauses, bounds)) | {name: name for name in types_in(it.head + it.bounds)}
         self.names, self.words = names, closure(key for key in names.values() if key)
-
-    def sentence(self):
-        """The first sentence of a call's comment."""
-        return re.match(r".*?\.(?= |$)|.*", " ".join(self.call.comment.split("\n\n")[0].split()))[0]
+        # The first sentence of the call's comment.
+        self.sentence = re.match(r".*?\.(?= |$)|.*", " ".join(call.comment.split("\n\n")[0].split()))[0]
 
 
 def entries_of(group):
@@ -239,7 +237,7 @@ def index_text():
     for group, entries in ENTRIES.items():
         target = page_of(group).removeprefix("docs/")
         text += f"\n### [{group}]({target})\n\n"
-        rows = [(f"[{it.title}]({target}#{slug(it.title)})", it.sentence().replace("|", "\\|")) for it in entries]
+        rows = [(f"[{it.title}]({target}#{slug(it.title)})", it.sentence.replace("|", "\\|")) for it in entries]
         text += "| Call | What it does |\n|---|---|\n" * bool(rows) + "".join(f"| {call} | {said} |\n" for call, said in rows)
         traits = dict.fromkeys(f"`{it}`" for source in sources_of(group) for _, traits, *_ in IMPLS.get(source, ()) for it in traits)
         text += f"\nTraits of others: {', '.join(traits)}.\n" if traits else ""

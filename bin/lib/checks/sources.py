@@ -33,14 +33,6 @@ def examples_of(text):
             yield comment, block, re.match("///|fn |impl |pub ", block) and "\n// ...\n" not in block
 
 
-def shown_by_types(text):
-    """The blocks of Rust in the `///` above a type, a trait or an impl of its own calls, each after the name of the type."""
-    for comment, block, _ in examples_of(text):
-        item = re.match(r"(?:#\[.*\n)*(?:pub (?:struct|enum|trait) (\w+)|impl(?:<.*?>)? (\w+)[<{ ])", text[comment.end() :])
-        if item:
-            yield item[1] or item[2], block
-
-
 def squeezed(text):
     """A head as one line, without its comments."""
     text = re.sub(r"\s+", " ", re.sub(r"//[^\n]*", "", text)).strip()
@@ -135,9 +127,13 @@ FUNCTIONS = {source: [*functions_of(source, text)] for source, text in SOURCES.i
 CALLS = {source: calls for library in LIBRARIES for source, calls in library_calls(library)}
 LISTED = [(source, call) for source, calls in CALLS.items() for call in calls]
 IMPLS = {source: [*impls_of(text), *derived_of(text)] for source, text in SOURCES.items()}
-# The examples of the libraries, each after its source and the type whose calls it shows: first those above types, then those of
-# calls.
-EXAMPLES = [(source, owner, block) for source, text in SOURCES.items() for owner, block in shown_by_types(text)]
+# The examples of the libraries, each after its source and the type whose calls it shows: first those above a type, a trait or an
+# impl of its own calls, then those of calls.
+EXAMPLES = []
+for source, text in SOURCES.items():
+    for comment, block, _ in examples_of(text):
+        item = re.match(r"(?:#\[.*\n)*(?:pub (?:struct|enum|trait) (\w+)|impl(?:<.*?>)? (\w+)[<{ ])", text[comment.end() :])
+        EXAMPLES += [(source, item[1] or item[2], block)] if item else []
 EXAMPLES += [(source, call.owner, block) for source, call in LISTED for block in call.examples]
 
 
