@@ -18,6 +18,7 @@ pub mod people;
 pub mod reserved;
 pub mod scores;
 pub mod sets;
+pub mod shelves;
 mod shown;
 pub mod stores;
 pub mod sums;

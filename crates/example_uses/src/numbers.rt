@@ -1,4 +1,4 @@
-//! Numbers as keys, and keys of a caller's own. What lookups find after a change, the calls themselves say.
+//! Numbers as keys, and keys of any type. What lookups find after a change, the calls themselves say.
 ghost use Rattle.std.specs.Prelude.{◌≡◌, ◌≢◌, ◌+◌, ◌-◌, ◌<◌, ◌≤◌, None, Ok, Some, IfErr, IfSome, IsTrue, OnErr, OnOk};
 ghost use Rattle.std.specs.Prelude.{is_some, length, option_map, slice_get};
 ghost use Rattle.std.specs.IoError.{error_kind};
@@ -109,28 +109,6 @@ pub fn set_reading(readings: &mut Readings, time: i64, level: u8) -> Result<(), 
         → value_at int_cmp readings.new.pairs other ≡ value_at int_cmp readings.old.pairs other) }
 {
     readings.insert(time, level)?;
-    Ok(())
-}
-
-/// A place in a store room, with an order of its own.
-#[derive(Clone, Copy, PartialEq, Eq, PartialOrd, Ord)]
-pub struct Shelf {
-    /// The number of the shelf.
-    pub number: u8,
-    /// How far its board lies above the floor.
-    pub board: i16,
-}
-
-/// How many there are, by shelf.
-pub type Stock = VecMap<Shelf, u32>;
-
-/// Sets how many are on a shelf. All others stay.
-pub fn set_stock(stock: &mut Stock, shelf: Shelf, count: u32) -> Result<(), AllocError>
-    ensures there { OnOk result (value_at ⟦<Shelf as Ord>⟧.cmp stock.new.pairs shelf ≡ Some count) }
-    ensures others { OnOk result ((other : _) → ⟦<Shelf as Ord>⟧.cmp other shelf ≢ Equal
-        → value_at ⟦<Shelf as Ord>⟧.cmp stock.new.pairs other ≡ value_at ⟦<Shelf as Ord>⟧.cmp stock.old.pairs other) }
-{
-    stock.insert(shelf, count)?;
     Ok(())
 }
 

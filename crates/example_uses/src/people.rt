@@ -6,7 +6,7 @@ ghost use Rattle.std.specs.Cmp.Rules.{comparing};
 ghost use Rattle.std.specs.Option.{option_copied};
 ghost use Rattle.std.specs.Ordering.{as_partial_cmp, nat_cmp, on};
 ghost use Rattle.litemap_store.specs.Pairs.{value_at};
-ghost use Rattle.litemap_store.specs.Queries.{key_one_side};
+ghost use Rattle.litemap_store.specs.Queries.{key_one_side, key_respects};
 
 use litemap::{Query, VecMap};
 use std::alloc::AllocError;
@@ -72,6 +72,8 @@ impl Query<Person> for Number {
     ghost order = { λ person number. nat_cmp person.number number };
 
     ghost one_side = { λ number a b. key_one_side nat_cmp_total number a.number b.number };
+
+    ghost respects = { λ number a b. key_respects nat_cmp_total number a.number b.number };
 
     fn compare_key(&self, key: &Person) -> Ordering {
         key.number.cmp(&self.0)

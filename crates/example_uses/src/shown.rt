@@ -7,9 +7,10 @@ use crate::headers::{self, Borrowed, Headers};
 use crate::made::value_or_made;
 use crate::message::{Field, read_headers};
 use crate::names::route;
-use crate::numbers::{self, Ages, Readings, Shelf, Stock};
+use crate::numbers::{self, Ages, Readings};
 use crate::people::{self, Person, kept_for};
 use crate::sets::{self, Set};
+use crate::shelves::{self, Shelf, Stock};
 use crate::stores::{moved, total};
 use crate::sums::{self, Named, Vector};
 use crate::texts::{self, ByteNumbers, Numbers};
@@ -93,22 +94,31 @@ fn show_ages(rt: &impl Print, alloc: Global) -> io::Result<()> {
     println!(rt; "from 2 on {ages:?}, dropped {dropped}, forgotten {forgotten:?}")
 }
 
-// Readings, and a stock of which one shelf is overwritten and one is taken.
+// Readings, and a stock whose shelves are changed.
 fn show_shelves(rt: &impl Print, alloc: Global) -> io::Result<()> {
     let mut readings = Readings::new_vec(alloc);
     numbers::set_reading(&mut readings, 5, 1)?;
     numbers::set_reading(&mut readings, -5, 2)?;
     let mut stock = Stock::new_vec(alloc);
     let (low, high) = (shelf(1), shelf(2));
-    numbers::set_stock(&mut stock, high, 2)?;
-    numbers::set_stock(&mut stock, low, 1)?;
+    shelves::set(&mut stock, high, 2)?;
+    shelves::set(&mut stock, low, 1)?;
     numbers::overwrite(&mut stock, &high, 20);
     let taken = numbers::take(&mut stock, &low);
     let written = stock.get(&high);
-    println!(rt; "readings {readings:?}, taken {taken:?}, written {written:?}")
+    println!(rt; "readings {readings:?}, taken {taken:?}, written {written:?}")?;
+    let is_there = shelves::correct(&mut stock, &high, 3);
+    let found = shelves::move_to(&mut stock, &high, low);
+    let next = shelves::next_from(&stock, &shelf(0)).map(|(shelf, count)| (shelf.number, count));
+    let cleared = shelves::clear(&mut stock, &low);
+    println!(rt;
+        "shelves corrected {is_there}, moved to {found:?}, next {next:?}, cleared {cleared:?}"
+    )
 }
 
-fn shelf(number: u8) -> Shelf {
+fn shelf(number: u8) -> Shelf
+    ensures { result.number ≡ number }
+{
     Shelf { number, board: -1 }
 }
 

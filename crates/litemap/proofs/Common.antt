@@ -16,7 +16,7 @@ pub use Rattle.std.specs.List.{AllAdjacentBelow, AllByRecursion, items_where_tru
 pub use Rattle.std.specs.Map.{keys_of}
 pub use Rattle.std.specs.Map.Iter.{TakesFirst, deref_pair}
 pub use Rattle.std.specs.Option.{option_map_or, option_or}
-pub use Rattle.litemap_store.proofs.Callers.Lookups.{at-filter_gone, at-filter_kept, at-put, index_of-put, value_at-between_apart, value_at-cut}
+pub use Rattle.litemap_store.proofs.Callers.Lookups.{at-filter_kept, at-put, index_of-put, value_at-between_apart, value_at-cut}
 pub use Rattle.litemap_store.proofs.Callers.Lookups.{value_at-cut_apart, value_at-cut_other, value_at-put, value_at-put_other, value_at-set, value_at-write}
 pub use Rattle.litemap_store.proofs.Callers.Lookups.{value_at-write_apart, value_at-written_apart, value_in-set}
 pub use Rattle.litemap_store.proofs.Callers.MergeLookups.{at-rising, at-same, key_alike, key_same, value_at-left, value_at-merged}

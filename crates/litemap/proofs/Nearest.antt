@@ -3,10 +3,10 @@
 -- absent key would go
 --     missing-index_of      an index at which a key would go is where a search finds none
 use Rattle.litemap.proofs.Common.{◌≡◌, ◌≢◌, ◌+◌, ◌-◌, ◌<◌, ◌∙◌, ◌++◌, ◌∷◌, [], ℕ, zero, suc, List, Option, Some, None, Ok, Err, true, false, ap, arith, refl}
-use Rattle.litemap.proofs.Common.{subst, sym, inl, inr, Ordering, Less, Equal, Greater, IsTotalOrder, tied_itself, is_lt, is_gt, is_some, length, slice_get}
-use Rattle.litemap.proofs.Common.{Rising, above, at, at_in, below, index_of, place, found_get, greater_back, slice_get-None}
+use Rattle.litemap.proofs.Common.{subst, sym, inl, inr, Ordering, Less, Equal, Greater, IsTotalOrder, tied_itself, is_lt, is_gt, is_some, IsSome, length}
+use Rattle.litemap.proofs.Common.{option_map, slice_get, Rising, above, at, at_in, below, index_of, place, value_at, found_get, greater_back, slice_get-None}
 use Rattle.std.specs.Prelude.{if◌then◌else◌}
-use Rattle.litemap_store.specs.Queries.{OneSide, key_one_side}
+use Rattle.litemap_store.specs.Queries.{OneSide, Respects, key_one_side}
 use Rattle.litemap_store.specs.Splits.{IsFoundAt, IsMissingAt}
 use Rattle.litemap_store.proofs.Names.{In}
 use Rattle.litemap_store.proofs.Callers.LastLookups.{at-Rising}
@@ -58,18 +58,32 @@ module _ {K V : Type 0} {cmp : K → K → Ordering} (o : IsTotalOrder cmp) wher
       let back = o.trans p.0 r.0 p.0 l h in
       let same = tied_itself o p.0 in cc
 
-module _ {K Q V : Type 0} {cmp : K → K → Ordering} (o : IsTotalOrder cmp) {order : K → Q → Ordering} (one : OneSide cmp order) (L : List (K × V)) (q : Q)
-    (rising : Rising cmp L) where
+module _ {K Q V : Type 0} {cmp : K → K → Ordering} (o : IsTotalOrder cmp) {order : K → Q → Ordering} (one : OneSide cmp order)
+    (respects : Respects cmp order) (L : List (K × V)) (q : Q) (rising : Rising cmp L) where
+  -- the pair at a key that is found
+  pair_of : (k : K) → IsSome (value_at cmp L k) → (r : K × V) × In r L × (cmp r.0 k ≡ Equal)
+  pair_of k there = by (at cmp L k) refl there
+    where
+      by : (r : Option (K × V)) → at cmp L k ≡ r → IsSome (option_map (λ p. p.1) r) → (r : K × V) × In r L × (cmp r.0 k ≡ Equal)
+      by None e h = absurd (cc)
+      by (Some r) e h = (r, (at_in cmp L k r e).0, (at_in cmp L k r e).1)
+
   nearest : (past : Ordering) (p : K × V) → In p L → order p.0 q ≢ past → ((r : K × V) → In r L → order r.0 q ≢ past → cmp r.0 p.0 ≢ past)
       → Nearest cmp order past L q (Some p)
   nearest past p i s next = record {
     there = at-Rising o L p.0 p rising i (tied_itself o p.0);
     side = s;
-    next = λ r f n. (p, refl, next r (at_in cmp L r.0 r f).0 n);
+    next = λ k there n.
+        let r = pair_of k there in
+        (p, refl, λ h. next r.0 r.1 (λ e. n (sym (respects q r.0.0 k r.2) ∙ e)) (o.congr r.0.0 k p.0 r.2 ∙ h));
   }
 
   nothing : (past : Ordering) → ((r : K × V) → In r L → order r.0 q ≢ past → ⊥) → Nearest cmp order past L q None
-  nothing past other = record { there = tt; side = tt; next = λ r f n. absurd (other r (at_in cmp L r.0 r f).0 n) }
+  nothing past other = record {
+    there = tt;
+    side = tt;
+    next = λ k there n. let r = pair_of k there in absurd (other r.0 r.1 (λ e. n (sym (respects q r.0.0 k r.2) ∙ e)));
+  }
 
   -- a key is equal, at index i
   module _ (i : ℕ) (found : IsFoundAt order L q i) where

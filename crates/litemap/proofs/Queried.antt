@@ -18,7 +18,9 @@ use Rattle.litemap_store.proofs.Lists.Membership.{In-from_filter, In-right, each
 use Rattle.litemap.specs.Retained.{Retains, ReturnsFor}
 use Rattle.litemap.specs.Updates.{IsGreatest, IsLeast, KeepsPart, TakesPair}
 use Rattle.litemap.specs.Written.{LeavesOf, WritesPair, Written}
+use Rattle.litemap_store.specs.Queries.{key_respects}
 use Rattle.litemap.proofs.MergedTests.{none_found}
+use Rattle.litemap.proofs.Updating.{keys_stay}
 use Rattle.litemap.proofs.Ends.{at-index, greatest, least}
 
 module _ {X : Type 0} (test : X → Bool) where
@@ -103,9 +105,13 @@ module _ {K V : Type 0} {cmp : K → K → Ordering} (o : IsTotalOrder cmp) (A B
   takes_parts = record {
     found = found-between (λ x. is_eq (cmp x.0 p.0)) (λ x t. equal_from_is_eq (cmp x.0 p.0) t) (ap is_eq (tied_itself o p.0));
     gone = gone-between (λ x. is_eq (cmp x.0 p.0)) (λ x t. equal_from_is_eq (cmp x.0 p.0) t);
-    others = λ test apart. find-append test A B ∙ sym (find-append test A (p ∷ B) ∙ rw (apart p (tied_itself o p.0)) refl);
+    others = others;
+    keys = keys_stay (key_respects o) p.0 (A ++ p ∷ B) (A ++ B) others;
     exact = exact_bytes;
   }
+    where
+      others : (test : K × V → Bool) → ((x : K × V) → cmp x.0 p.0 ≡ Equal → test x ≡ false) → find test (A ++ B) ≡ find test (A ++ p ∷ B)
+      others test apart = find-append test A B ∙ sym (find-append test A (p ∷ B) ∙ rw (apart p (tied_itself o p.0)) refl)
 
 module _ {K V : Type 0} {cmp : K → K → Ordering} (o : IsTotalOrder cmp) (L : List (K × V)) (p : K × V) (r : Rising cmp L) where
   pub takes_at : (i : ℕ) → slice_get L i ≡ Some p → TakesPair cmp p L (remove L i)

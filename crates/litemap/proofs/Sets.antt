@@ -2,16 +2,18 @@
 --     list_all-past      whether each is found, after the first one
 --     at_end, at_equal, at_greater      what a key finds, and the pairs past it, by the first pair;  Kept-beside      what a closure keeps that walks the other
 -- list
---     value_at-kept      what a lookup finds in it;  found_in_each      what it finds if each key is in the other list
+--     value_at-kept      what each key finds in it;  found_in_each      what it finds if each key is in the other list
 use Rattle.litemap.proofs.Common.{◌≡◌, IsSome, Bool, true, false, cond, List, [], ◌∷◌, length, filter, is_some, slice_get, Option}
 use Rattle.litemap.proofs.Common.{None, Some, option_map, refl, sym, ap, ◌∙◌, subst, arith, is_eq, is_gt, Ordering, Less, Equal}
 use Rattle.litemap.proofs.Common.{Greater, Bor, IsTotalOrder, AllByRecursion, items_where_true, list_all, TakesFirst, deref_pair}
-use Rattle.litemap.proofs.Common.{BelowAll, Rising, above, at, value_at, at-filter_gone, at-filter_kept, Rising-filter, above_all}
+use Rattle.litemap.proofs.Common.{BelowAll, Rising, above, at, value_at, at-filter_kept, Rising-filter, above_all}
 use Rattle.litemap.proofs.Common.{at_past, each-weaker, equal_from_is_eq, greater_back, less_back, Called, Mut}
 use Rattle.std.proofs.lemmas.Bool.{and_parts}
 use Rattle.std.specs.List.Retain.{ReturnsInTurn}
 use Rattle.litemap_store.specs.Retain.{CalledOnPair, Kept}
 use Rattle.litemap_store.proofs.Callers.Tallies.{value_at_equal}
+use Rattle.litemap.specs.Updates.{KeepsPart}
+use Rattle.litemap.proofs.Updating.{value_at-no_part, value_at-part}
 
 module _ {K : Type 0} {cmp : K → K → Ordering} (o : IsTotalOrder cmp) {W : Type 0} where
   -- past a key, a greater one finds what it found before
@@ -93,8 +95,8 @@ module _ {K : Type 0} {cmp : K → K → Ordering} (o : IsTotalOrder cmp) {W : T
         → M ≡ filter (λ p. t (is_some (at cmp R' p.0))) L'
     Kept-beside f L L' M R R' k h is from r same = rw (← same) (rw (← is) (rw (← from) (k.4 ∙ kept k.0 L f k.1 k.2 h (subst (Rising cmp) (sym from) r) k.3)))
 
--- ---- what a lookup finds if the keys of another list are kept, or dropped
-module _ {K : Type 0} {cmp : K → K → Ordering} (o : IsTotalOrder cmp) {W : Type 0} (t : Bool → Bool) (M : List (K × W)) (k : K) where
+-- ---- what each key finds if those of another list are kept, or dropped
+module _ {K : Type 0} {cmp : K → K → Ordering} (o : IsTotalOrder cmp) {W : Type 0} (t : Bool → Bool) (M : List (K × W)) where
   abbrev keeps : K → Bool
   keeps x = t (is_some (at cmp M x))
 
@@ -102,22 +104,13 @@ module _ {K : Type 0} {cmp : K → K → Ordering} (o : IsTotalOrder cmp) {W : T
   is_some-value None = refl
   is_some-value (Some p) = refl
 
-  same_key : (x : K) → cmp x k ≡ Equal → keeps x ≡ keeps k
-  same_key x e = ap t (sym (is_some-value (at cmp M x)) ∙ ap is_some (sym (value_at_equal o M x k e)) ∙ is_some-value (at cmp M k))
+  same_key : (x y : K) → cmp x y ≡ Equal → keeps x ≡ keeps y
+  same_key x y e = ap t (sym (is_some-value (at cmp M x)) ∙ ap is_some (sym (value_at_equal o M x y e)) ∙ is_some-value (at cmp M y))
 
-  module _ {V : Type 0} where
-    at-kept : (L : List (K × V)) → at cmp (filter (λ q. keeps q.0) L) k ≡ cond (keeps k) (at cmp L k) None
-    at-kept L = (elim (keeps k) as (λ b. keeps k ≡ b → at cmp (filter (λ q. keeps q.0) L) k ≡ cond b (at cmp L k) None) [
-      | true ↦ λ e. at-filter_kept cmp k keeps (λ x f. same_key x f ∙ e) L
-      | false ↦ λ e. at-filter_gone cmp k keeps (λ x f. same_key x f ∙ e) L
-    ]) refl
-
-    pub value_at-kept : (L N : List (K × V)) → N ≡ filter (λ q. t (is_some (at cmp M q.0))) L
-        → value_at cmp N k ≡ cond (t (is_some (at cmp M k))) (value_at cmp L k) None
-    value_at-kept L N is =
-        rw is (ap (option_map (λ q. q.1)) (at-kept L)
-        ∙ elim (keeps k) as (λ b. option_map (λ q. q.1) (cond b (at cmp L k) None) ≡ cond b (option_map (λ q. q.1) (at cmp L k)) None)
-        [ true ↦ refl | false ↦ refl ])
+  pub value_at-kept : {V : Type 0} (L N : List (K × V)) → KeepsPart (λ q. keeps q.0) L N → (k : K)
+      → value_at cmp N k ≡ cond (keeps k) (value_at cmp L k) None
+  value_at-kept L N part k = (elim (keeps k) as (λ b. keeps k ≡ b → value_at cmp N k ≡ cond b (value_at cmp L k) None)
+      [ true ↦ value_at-part keeps same_key L N part k | false ↦ value_at-no_part keeps same_key L N part k ]) refl
 
 -- ---- what a lookup finds if each key is in another list
 module _ {K W : Type 0} {cmp : K → K → Ordering} (o : IsTotalOrder cmp) (M : List (K × W)) (k : K) where

@@ -1,7 +1,8 @@
 -- What lookups find after one key has changed: for the clauses `updates`.
 --     updates_put, places_put, updates_push      after a put;  finds_cut, places_cut      after a cut;  finds_write      after a write
+--     keys_stay      what each key finds that a query doesn't;  value_at-part, value_at-no_part      and in a part
 use Rattle.litemap.proofs.Common.{◌≡◌, ◌∙◌, ◌∷◌, ◌++◌, ◌+◌, ℕ, Bool, false, List, Option, None, Some, IsSome, Result, option_map, is_gt, is_lt, [], Ok}
-use Rattle.litemap.proofs.Common.{Err, arith, ap, append-nil, is_eq, is_some, length}
+use Rattle.litemap.proofs.Common.{Err, arith, ap, append-nil, equal_from_is_eq, is_eq, is_some, length, true}
 use Rattle.litemap.proofs.Common.{length-append, option_or, refl, subst, sym, Ordering, Less, Equal, Greater, IsTotalOrder, key_or_equal}
 use Rattle.litemap.proofs.Common.{above, at, below, cut, index_of, key_or, place, put, value_at, write, value_at-cut, value_at-put, value_at-put_other}
 use Rattle.litemap.proofs.Common.{value_at-write}
@@ -19,7 +20,9 @@ use Rattle.std.proofs.lemmas.Map.Lookups.{exact_bytes}
 use Rattle.litemap_store.specs.Splits.{IsFoundAt, Splits}
 use Rattle.litemap_store.proofs.Callers.Lookups.{below-above, below-below}
 use Rattle.litemap_store.proofs.Callers.Tallies.{value_at_equal}
-use Rattle.litemap.specs.Updates.{Finds, Places, Updates}
+use Rattle.litemap_store.proofs.Search.Splitting.{not_is_eq}
+use Rattle.litemap_store.specs.Queries.{Respects}
+use Rattle.litemap.specs.Updates.{Finds, KeepsPart, KeysStay, Places, Updates}
 
 length-between : {X : Type 0} (A B : List X) (x : X) → length (A ++ x ∷ B) ≡ length (A ++ B) + 1
 length-between A B x = omega (arith, length-append A B, length-append A (x ∷ B))
@@ -106,6 +109,22 @@ module _ {K Q V : Type 0} (order : K → Q → Ordering) (q : Q) where
         others = λ test apart. ap (find test) e ∙ others-between L x s.equal (Ok i) s test apart;
         exact = exact_bytes;
       }
+
+-- in a part whose keys pass a test that equal keys pass alike
+module _ {K V : Type 0} {cmp : K → K → Ordering} (keep : K → Bool) (alike : (x y : K) → cmp x y ≡ Equal → keep x ≡ keep y) (L M : List (K × V))
+    (part : KeepsPart (λ p. keep p.0) L M) (k : K) where
+  pub value_at-part : keep k ≡ true → value_at cmp M k ≡ value_at cmp L k
+  value_at-part e = ap (option_map (λ p. p.1)) (part.stays (λ p. is_eq (cmp p.0 k)) (λ p t. alike p.0 k (equal_from_is_eq _ t) ∙ e))
+
+  pub value_at-no_part : keep k ≡ false → value_at cmp M k ≡ None
+  value_at-no_part e = ap (option_map (λ p. p.1)) (part.gone (λ p. is_eq (cmp p.0 k)) (λ p t. alike p.0 k (equal_from_is_eq _ t) ∙ e))
+
+module _ {K Q V : Type 0} {cmp : K → K → Ordering} {order : K → Q → Ordering} (respects : Respects cmp order) (q : Q) where
+  -- of a query that changes no other one's pair
+  pub keys_stay : (L M : List (K × V)) → ((test : K × V → Bool) → ((p : K × V) → order p.0 q ≡ Equal → test p ≡ false) → find test M ≡ find test L)
+      → KeysStay cmp order q L M
+  keys_stay L M others k n = ap (option_map (λ p. p.1)) (others (λ p. is_eq (cmp p.0 k))
+      (λ p e. not_is_eq (cmp p.0 k) (λ t. let same : order p.0 q ≡ order k q = respects q p.0 k t in absurd (cc))))
 
 module _ {K V : Type 0} {cmp : K → K → Ordering} (o : IsTotalOrder cmp) (L : List (K × V)) (k : K) (v : V) where
   each_by : (q : K) (r : Ordering) → cmp q k ≡ r → value_at cmp (put cmp L k v) q ≡ (if is_eq r then Some v else value_at cmp L q)

@@ -16,6 +16,10 @@ pub record Finds {K Q V : Type 0} (order : K → Q → Ordering) (q : Q) (w : Op
   -- a law of strings and bytes, by which a caller's search tells two of them apart: it is not of this map
   pub exact : (x y : List ℕ) → slice_cmp nat_cmp x y ≡ Equal → x ≡ y
 
+-- each key that q doesn't find finds what it found before
+abbrev pub KeysStay : {K Q V : Type 0} → (K → K → Ordering) → (K → Q → Ordering) → Q → List (K × V) → List (K × V) → Type 0
+KeysStay {K} cmp order q before after = (k : K) → is_eq (order k q) ≡ false → value_at cmp after k ≡ value_at cmp before k
+
 -- the key `key` finds w, and so do those equal to it; each other one finds what it found before
 pub record Updates {K V : Type 0} (cmp : K → K → Ordering) (key : K) (w : Option V) (before after : List (K × V)) : Type 0 where
   pub finds : Finds cmp key w before after
@@ -32,6 +36,7 @@ pub record Moves {K Q V : Type 0} (order : K → Q → Ordering) (q : Q) (cmp : 
   pub gone : ((p : K × V) → cmp p.0 key ≡ Equal → is_eq (order p.0 q) ≡ false) → value_at order after q ≡ None
   pub others : (test : K × V → Bool) → ((p : K × V) → order p.0 q ≡ Equal → test p ≡ false)
       → ((p : K × V) → cmp p.0 key ≡ Equal → test p ≡ false) → find test after ≡ find test before
+  pub keys : (k : K) → is_eq (order k q) ≡ false → is_eq (cmp k key) ≡ false → value_at cmp after k ≡ value_at cmp before k
   pub exact : (x y : List ℕ) → slice_cmp nat_cmp x y ≡ Equal → x ≡ y
 
 -- the test of a query that finds a key, and those equal to it and no other
@@ -68,6 +73,7 @@ module _ {K V : Type 0} (cmp : K → K → Ordering) (p : K × V) where
     pub found : at cmp before p.0 ≡ Some p
     pub gone : at cmp after p.0 ≡ None
     pub others : (test : K × V → Bool) → ((x : K × V) → cmp x.0 p.0 ≡ Equal → test x ≡ false) → find test after ≡ find test before
+    pub keys : KeysStay cmp cmp p.0 before after
     pub exact : (x y : List ℕ) → slice_cmp nat_cmp x y ≡ Equal → x ≡ y
 
   -- no key that is found in the list is below that of p, or none is above

@@ -12,6 +12,10 @@ use Rattle.std.specs.Cmp.Lexicographic.{slice_cmp}
 abbrev pub OneSide : {K Q : Type 0} → (K → K → Ordering) → (K → Q → Ordering) → Type 0
 OneSide {K} {Q} cmp order = (q : Q) (x y : K) → cmp x y ≡ Less → (order x q ≡ Less) ⊎ (order y q ≡ Greater)
 
+-- keys that are equal compare alike with a query
+abbrev pub Respects : {K Q : Type 0} → (K → K → Ordering) → (K → Q → Ordering) → Type 0
+Respects {K} {Q} cmp order = (q : Q) (x y : K) → cmp x y ≡ Equal → order x q ≡ order y q
+
 -- a key is a query, by the order of the keys
 pub key_one_side : {K : Type 0} {cmp : K → K → Ordering} → IsTotalOrder cmp → OneSide cmp cmp
 key_one_side {cmp = cmp} o k x y h = by (cmp x k) refl
@@ -23,6 +27,9 @@ key_one_side {cmp = cmp} o k x y h = by (cmp x k) refl
     by Less e = inl e
     by Equal e = inr (above (sym (o.congr x k y e) ∙ h))
     by Greater e = inr (above (o.trans k x y (o.antisymm k x ∙ ap ordering_reverse e) h))
+
+pub key_respects : {K : Type 0} {cmp : K → K → Ordering} → IsTotalOrder cmp → Respects cmp cmp
+key_respects o k x y = o.congr x y k
 
 -- the order of strings: by their bytes, where a proper prefix is less
 abbrev pub bytes_cmp : List ℕ → List ℕ → Ordering

@@ -6,7 +6,7 @@ ghost use Rattle.std.specs.Cmp.Lexicographic.{slice_cmp, lists_total, nat_list_c
 ghost use Rattle.std.specs.Cow.{cow_str_bytes};
 ghost use Rattle.std.specs.Rc.{rc_str_bytes};
 ghost use Rattle.std.specs.declared.cmp.Ordering.{Ordering};
-ghost use Rattle.litemap_store.specs.{OneSide, by_slice, by_string, bytes_cmp, key_one_side};
+ghost use Rattle.litemap_store.specs.{OneSide, Respects, by_slice, by_string, bytes_cmp, key_one_side, key_respects};
 
 use std::borrow::CowStr;
 use std::boxed::{BoxedSlice, BoxedStr};
@@ -37,6 +37,9 @@ pub trait Query<K: Ord>: Copy {
 
     /// Of two ascending keys, the lower one is below the query or the higher one above it.
     ghost one_side: { OneSide K.cmp order };
+
+    /// Keys that are equal compare alike with the query.
+    ghost respects: { Respects K.cmp order };
 }
 
 impl<K: Ord> Query<K> for &K {
@@ -47,6 +50,8 @@ impl<K: Ord> Query<K> for &K {
     ghost order = { K.cmp };
 
     ghost one_side = { key_one_side K.total };
+
+    ghost respects = { key_respects K.total };
 
     fn compare_key(&self, key: &K) -> Ordering {
         key.cmp(*self)
@@ -62,6 +67,8 @@ impl Query<String> for &str {
 
     ghost one_side = { λ text x y. key_one_side nat_list_cmp_total text (string_bytes x) (string_bytes y) };
 
+    ghost respects = { λ text x y. key_respects nat_list_cmp_total text (string_bytes x) (string_bytes y) };
+
     fn compare_key(&self, key: &String) -> Ordering {
         key.as_str().cmp(*self)
     }
@@ -75,6 +82,8 @@ impl<'k> Query<&'k str> for &str {
     ghost order = { λ key text. bytes_cmp key.now text.now };
 
     ghost one_side = { λ text x y. key_one_side nat_list_cmp_total text.now x.now y.now };
+
+    ghost respects = { λ text x y. key_respects nat_list_cmp_total text.now x.now y.now };
 
     fn compare_key(&self, key: &&'k str) -> Ordering {
         (*key).cmp(*self)
@@ -90,6 +99,8 @@ impl Query<BoxedStr> for &str {
 
     ghost one_side = { λ text x y. key_one_side nat_list_cmp_total text (boxed_str_bytes x) (boxed_str_bytes y) };
 
+    ghost respects = { λ text x y. key_respects nat_list_cmp_total text (boxed_str_bytes x) (boxed_str_bytes y) };
+
     fn compare_key(&self, key: &BoxedStr) -> Ordering {
         key.as_str().cmp(*self)
     }
@@ -103,6 +114,8 @@ impl Query<RcStr> for &str {
     ghost order = { λ key text. bytes_cmp (rc_str_bytes key) text };
 
     ghost one_side = { λ text x y. key_one_side nat_list_cmp_total text (rc_str_bytes x) (rc_str_bytes y) };
+
+    ghost respects = { λ text x y. key_respects nat_list_cmp_total text (rc_str_bytes x) (rc_str_bytes y) };
 
     fn compare_key(&self, key: &RcStr) -> Ordering {
         key.as_str().cmp(*self)
@@ -118,6 +131,8 @@ impl Query<ArcStr> for &str {
 
     ghost one_side = { λ text x y. key_one_side nat_list_cmp_total text (arc_str_bytes x) (arc_str_bytes y) };
 
+    ghost respects = { λ text x y. key_respects nat_list_cmp_total text (arc_str_bytes x) (arc_str_bytes y) };
+
     fn compare_key(&self, key: &ArcStr) -> Ordering {
         key.as_str().cmp(*self)
     }
@@ -131,6 +146,8 @@ impl<'k> Query<CowStr<'k>> for &str {
     ghost order = { λ key text. bytes_cmp (cow_str_bytes key) text };
 
     ghost one_side = { λ text x y. key_one_side nat_list_cmp_total text (cow_str_bytes x) (cow_str_bytes y) };
+
+    ghost respects = { λ text x y. key_respects nat_list_cmp_total text (cow_str_bytes x) (cow_str_bytes y) };
 
     fn compare_key(&self, key: &CowStr<'k>) -> Ordering {
         key.as_str().cmp(*self)
@@ -146,6 +163,8 @@ impl<T: Ord> Query<Vec<T>> for &[T] {
 
     ghost one_side = { λ slice x y. key_one_side (lists_total T.total) slice x.items y.items };
 
+    ghost respects = { λ slice x y. key_respects (lists_total T.total) slice x.items y.items };
+
     fn compare_key(&self, key: &Vec<T>) -> Ordering {
         key.as_slice().cmp(*self)
     }
@@ -160,6 +179,8 @@ impl<'k, T: Ord> Query<&'k [T]> for &[T] {
 
     ghost one_side = { λ slice x y. key_one_side (lists_total T.total) slice.now x.now y.now };
 
+    ghost respects = { λ slice x y. key_respects (lists_total T.total) slice.now x.now y.now };
+
     fn compare_key(&self, key: &&'k [T]) -> Ordering {
         (*key).cmp(*self)
     }
@@ -173,6 +194,9 @@ impl<T: Ord> Query<BoxedSlice<T>> for &[T] {
     ghost order = { λ key slice. slice_cmp T.cmp (boxed_slice_items key) slice };
 
     ghost one_side = { λ slice x y. key_one_side
+        (lists_total T.total) slice (boxed_slice_items x) (boxed_slice_items y) };
+
+    ghost respects = { λ slice x y. key_respects
         (lists_total T.total) slice (boxed_slice_items x) (boxed_slice_items y) };
 
     fn compare_key(&self, key: &BoxedSlice<T>) -> Ordering {

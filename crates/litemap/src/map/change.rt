@@ -12,7 +12,7 @@ ghost use Rattle.litemap.specs.FoundBy.{RemovesFound};
 ghost use Rattle.litemap.specs.Retained.{Retains, ReturnsAt};
 ghost use Rattle.std.specs.Borrow.{sem};
 ghost use Rattle.litemap.specs.Lends.{RestsAs};
-ghost use Rattle.litemap.specs.Updates.{Finds, Moves, Places, TakesPair, Updates};
+ghost use Rattle.litemap.specs.Updates.{Finds, KeysStay, Moves, Places, TakesPair, Updates};
 ghost use Rattle.litemap.specs.TryFault.{FailsAs, IfClosure, IsInsertedAt, Shown};
 
 use crate::{LiteMap, TryFault};
@@ -188,6 +188,7 @@ impl<K: Ord + Drop, V, S: StoreMut<K, V>> LiteMap<K, V, S> {
         ensures value { result ≡ value_at Q.order self.old.pairs (Q.sought key) }
         ensures removed { Removes Q.order (Q.sought key) S.keeps_memory self.old self.new result }
         ensures updates { Finds Q.order (Q.sought key) None self.old.pairs self.new.pairs }
+        ensures others { KeysStay K.cmp Q.order (Q.sought key) self.old.pairs self.new.pairs }
         ensures places { Places Q.order (Q.sought key) None self.old.pairs self.new.pairs }
         ensures rising { Rising K.cmp self.old.pairs }
     {
@@ -199,6 +200,7 @@ impl<K: Ord + Drop, V, S: StoreMut<K, V>> LiteMap<K, V, S> {
         ensures value { result ≡ value_at Q.order self.old.pairs (Q.sought key) }
         ensures removed { Removes Q.order (Q.sought key) S.keeps_memory self.old self.new result }
         ensures updates { Finds Q.order (Q.sought key) None self.old.pairs self.new.pairs }
+        ensures others { KeysStay K.cmp Q.order (Q.sought key) self.old.pairs self.new.pairs }
         ensures places { Places Q.order (Q.sought key) None self.old.pairs self.new.pairs }
         ensures rising { Rising K.cmp self.old.pairs }
         ensures cost { RisesByAtMost (digits (length self.old.pairs)) count.old count.new }

@@ -9,7 +9,7 @@ ghost use Rattle.litemap_store.specs.Pairs.{Rising, at, below};
 ghost use Rattle.litemap_store.specs.Retain.{Tests};
 ghost use Rattle.litemap.specs.Changes.{Removes};
 ghost use Rattle.litemap.specs.Parted.{Parted};
-ghost use Rattle.litemap.specs.Updates.{Finds, IsGreatest, IsLeast, KeepsPart, Places, TakesPair};
+ghost use Rattle.litemap.specs.Updates.{Finds, IsGreatest, IsLeast, KeepsPart, KeysStay, Places, TakesPair};
 ghost use Rattle.litemap.specs.Within.{within};
 
 use crate::LiteMap;
@@ -32,6 +32,7 @@ impl<K: Ord, V, S: StoreMut<K, V>> LiteMap<K, V, S> {
         ensures pair { result ≡ at Q.order self.old.pairs (Q.sought key) }
         ensures removed { Removes Q.order (Q.sought key) S.keeps_memory self.old self.new result }
         ensures updates { Finds Q.order (Q.sought key) None self.old.pairs self.new.pairs }
+        ensures others { KeysStay K.cmp Q.order (Q.sought key) self.old.pairs self.new.pairs }
         ensures places { Places Q.order (Q.sought key) None self.old.pairs self.new.pairs }
         ensures rising { Rising K.cmp self.old.pairs }
     {
@@ -72,6 +73,7 @@ impl<K: Ord, V, S: StoreMut<K, V>> LiteMap<K, V, S> {
         ensures pair { result ≡ at Q.order self.old.pairs (Q.sought key) }
         ensures removed { Removes Q.order (Q.sought key) S.keeps_memory self.old self.new result }
         ensures updates { Finds Q.order (Q.sought key) None self.old.pairs self.new.pairs }
+        ensures others { KeysStay K.cmp Q.order (Q.sought key) self.old.pairs self.new.pairs }
         ensures places { Places Q.order (Q.sought key) None self.old.pairs self.new.pairs }
         ensures rising { Rising K.cmp self.old.pairs }
         ensures cost { RisesByAtMost (digits (length self.old.pairs)) count.old count.new }

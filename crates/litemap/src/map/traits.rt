@@ -8,7 +8,7 @@ ghost use Rattle.litemap_store.specs.Clones.{PairsBecame};
 ghost use Rattle.litemap_store.specs.Last.{Last};
 ghost use Rattle.litemap_store.specs.Pairs.{at, value_at, write};
 ghost use Rattle.litemap.specs.Lends.{LendsKey};
-ghost use Rattle.litemap.specs.Updates.{Finds};
+ghost use Rattle.litemap.specs.Updates.{Finds, KeysStay};
 
 use crate::LiteMap;
 use litemap_store::Query;
@@ -87,6 +87,8 @@ impl<K: Ord, V, S: StoreMut<K, V>, Q: Query<K>> IndexMut<Q> for LiteMap<K, V, S>
             (LendsKey K.row V.row S.row K.Ord S.pairs S.room self.entry Q.order (Q.sought key) result) }
         ensures value { Some result.now ≡ value_at Q.order self.old.pairs (Q.sought key) }
         ensures updates { (v : V) → Finds Q.order (Q.sought key) (Some v) self.old.pairs
+            (write Q.order self.old.pairs (Q.sought key) v) }
+        ensures others { (v : V) → KeysStay K.cmp Q.order (Q.sought key) self.old.pairs
             (write Q.order self.old.pairs (Q.sought key) v) }
     {
         self.index_mut(key)

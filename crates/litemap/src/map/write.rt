@@ -15,7 +15,7 @@ ghost use Rattle.litemap_store.specs.Search.{CallableOnKeys, Found};
 ghost use Rattle.litemap.specs.KeptWritten.{KeptWritten, WritesAndTests};
 ghost use Rattle.litemap.specs.Lends.{LendsThere, LendsFound, LendsKey, LendsIndex, LendsValue, LendsValues};
 ghost use Rattle.litemap.specs.TryWritten.{TryWrites, WrittenUntil};
-ghost use Rattle.litemap.specs.Updates.{Finds};
+ghost use Rattle.litemap.specs.Updates.{Finds, KeysStay};
 ghost use Rattle.litemap.specs.Written.{CallableOnValues, LeavesOf, Writes, Written};
 
 use crate::LiteMap;
@@ -47,6 +47,8 @@ impl<K: Ord, V, S: StoreMut<K, V>> LiteMap<K, V, S> {
         // What lookups find after a write.
         ensures updates { (v : V) → IsSome (at Q.order self.old.pairs (Q.sought key)) → Finds Q.order (Q.sought key)
             (Some v) self.old.pairs (write Q.order self.old.pairs (Q.sought key) v) }
+        ensures others { (v : V) → IsSome (at Q.order self.old.pairs (Q.sought key)) → KeysStay K.cmp Q.order (Q.sought key)
+            self.old.pairs (write Q.order self.old.pairs (Q.sought key) v) }
         ensures keys { (v : V) → keys_of (write Q.order self.old.pairs (Q.sought key) v) ≡ keys_of self.old.pairs }
         ensures len { (v : V) → length (write Q.order self.old.pairs (Q.sought key) v) ≡ length self.old.pairs }
         ensures rising { Rising K.cmp self.old.pairs }
@@ -84,6 +86,8 @@ impl<K: Ord, V, S: StoreMut<K, V>> LiteMap<K, V, S> {
             (LendsKey K.row V.row S.row K.Ord S.pairs S.room self.entry Q.order (Q.sought key) result) }
         ensures value { Some result.now ≡ value_at Q.order self.old.pairs (Q.sought key) }
         ensures updates { (v : V) → Finds Q.order (Q.sought key) (Some v) self.old.pairs
+            (write Q.order self.old.pairs (Q.sought key) v) }
+        ensures others { (v : V) → KeysStay K.cmp Q.order (Q.sought key) self.old.pairs
             (write Q.order self.old.pairs (Q.sought key) v) }
     {
         let index = self.search(key, &mut Count::new()).unwrap();

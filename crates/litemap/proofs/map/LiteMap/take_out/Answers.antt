@@ -1,5 +1,5 @@
 use Rattle.litemap.proofs.Common.{◌∙◌, sym, Ok, Err, None, true≢false, subst, found_remove, found_there, found_within}
-use Rattle.litemap.proofs.Updating.{finds_cut, places_cut}
+use Rattle.litemap.proofs.Updating.{finds_cut, keys_stay, places_cut}
 use Rattle.litemap.specs.Updates.{Finds, Places}
 use Rattle.litemap.proofs.map.LiteMap.take_out.Goals as goal
 
@@ -23,6 +23,12 @@ pub returns-in-Err-clause-updates : goal.returns-in-Err-clause-updates
 returns-in-Err-clause-updates g c =
     subst (λ M. Finds g.Q.Query.order (g.Q.Query.sought c.args.key) None c.args.self.now.pairs M) (sym c.in-Err.ensures.splits.is)
     (finds_cut g.Q.Query.order (g.Q.Query.sought c.args.key) c.args.self.now.pairs (Err _) c.in-Err.ensures.splits)
+
+pub returns-in-Ok-clause-others : goal.returns-in-Ok-clause-others
+returns-in-Ok-clause-others g c = keys_stay g.met.Q.Query.respects _ _ _ (returns-in-Ok-clause-updates g c).others
+
+pub returns-in-Err-clause-others : goal.returns-in-Err-clause-others
+returns-in-Err-clause-others g c = keys_stay g.met.Q.Query.respects _ _ _ (returns-in-Err-clause-updates g c).others
 
 pub returns-in-Ok-clause-places : goal.returns-in-Ok-clause-places
 returns-in-Ok-clause-places g c =

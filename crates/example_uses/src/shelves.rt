@@ -1,0 +1,85 @@
+//! Keys of a type of a caller's own, in the order that it derives. All other shelves are those for which `cmp` doesn't return
+//! `Equal`: said by `is_eq`, it is proved after two changes, too.
+ghost use Rattle.std.specs.Prelude.{◌≡◌, ◌≢◌, None, Some, IfSome, IsNone, IsSome, IsTrue, OnErr, OnOk, false, is_some};
+ghost use Rattle.std.specs.Ordering.{is_eq};
+ghost use Rattle.std.specs.declared.cmp.Ordering.TheVariants.{Less};
+ghost use Rattle.litemap_store.specs.Pairs.{at, value_at};
+
+use litemap::VecMap;
+use std::alloc::AllocError;
+
+/// A place in a store room, with an order of its own.
+#[derive(Clone, Copy, PartialEq, Eq, PartialOrd, Ord)]
+pub struct Shelf {
+    /// The number of the shelf.
+    pub number: u8,
+    /// How far its board lies above the floor.
+    pub board: i16,
+}
+
+/// How many there are, by shelf.
+pub type Stock = VecMap<Shelf, u32>;
+
+/// Sets how many are on a shelf. All others stay.
+pub fn set(stock: &mut Stock, shelf: Shelf, count: u32) -> Result<(), AllocError>
+    ensures there { OnOk result (value_at ⟦<Shelf as Ord>⟧.cmp stock.new.pairs shelf ≡ Some count) }
+    ensures others { OnOk result ((other : _) → is_eq (⟦<Shelf as Ord>⟧.cmp other shelf) ≡ false
+        → value_at ⟦<Shelf as Ord>⟧.cmp stock.new.pairs other ≡ value_at ⟦<Shelf as Ord>⟧.cmp stock.old.pairs other) }
+    ensures unchanged { OnErr result (stock.new.pairs ≡ stock.old.pairs) }
+{
+    stock.insert(shelf, count)?;
+    Ok(())
+}
+
+/// Writes how many are on a shelf, if it is there. All others stay.
+pub fn correct(stock: &mut Stock, shelf: &Shelf, count: u32) -> bool
+    ensures there { result ≡ is_some (at ⟦<Shelf as Ord>⟧.cmp stock.old.pairs shelf.now) }
+    ensures set { IsTrue result → value_at ⟦<Shelf as Ord>⟧.cmp stock.new.pairs shelf.now ≡ Some count }
+    ensures others { (other : _) → is_eq (⟦<Shelf as Ord>⟧.cmp other shelf.now) ≡ false
+        → value_at ⟦<Shelf as Ord>⟧.cmp stock.new.pairs other ≡ value_at ⟦<Shelf as Ord>⟧.cmp stock.old.pairs other }
+{
+    match stock.get_mut(shelf) {
+        Some(slot) => {
+            *slot = count;
+            true
+        }
+        None => false,
+    }
+}
+
+/// Clears a shelf, and returns how many were there. All others stay.
+pub fn clear(stock: &mut Stock, shelf: &Shelf) -> Option<u32>
+    ensures value { result ≡ value_at ⟦<Shelf as Ord>⟧.cmp stock.old.pairs shelf.now }
+    ensures gone { value_at ⟦<Shelf as Ord>⟧.cmp stock.new.pairs shelf.now ≡ None }
+    ensures others { (other : _) → is_eq (⟦<Shelf as Ord>⟧.cmp other shelf.now) ≡ false
+        → value_at ⟦<Shelf as Ord>⟧.cmp stock.new.pairs other ≡ value_at ⟦<Shelf as Ord>⟧.cmp stock.old.pairs other }
+{
+    stock.remove(shelf)
+}
+
+/// Moves what is on a shelf to another one, and returns what was there. The removal leaves room, so it never fails. All others
+/// stay.
+pub fn move_to(stock: &mut Stock, from: &Shelf, to: Shelf) -> Option<u32>
+    requires { is_eq (⟦<Shelf as Ord>⟧.cmp from.now to) ≡ false }
+    ensures moved { IsSome (value_at ⟦<Shelf as Ord>⟧.cmp stock.old.pairs from.now)
+        → value_at ⟦<Shelf as Ord>⟧.cmp stock.new.pairs to ≡ value_at ⟦<Shelf as Ord>⟧.cmp stock.old.pairs from.now }
+    ensures gone { value_at ⟦<Shelf as Ord>⟧.cmp stock.new.pairs from.now ≡ None }
+    ensures others { (other : _) → is_eq (⟦<Shelf as Ord>⟧.cmp other from.now) ≡ false → is_eq (⟦<Shelf as Ord>⟧.cmp other to) ≡ false
+        → value_at ⟦<Shelf as Ord>⟧.cmp stock.new.pairs other ≡ value_at ⟦<Shelf as Ord>⟧.cmp stock.old.pairs other }
+{
+    let count = stock.remove(from)?;
+    stock.insert(to, count).unwrap()
+}
+
+/// The first shelf from one on, and how many are there. None lies between.
+pub fn next_from(stock: &Stock, shelf: &Shelf) -> Option<(Shelf, u32)>
+    ensures found { IfSome result (λ p. value_at ⟦<Shelf as Ord>⟧.cmp stock.now.pairs p.0 ≡ Some p.1) }
+    ensures above { IfSome result (λ p. ⟦<Shelf as Ord>⟧.cmp p.0 shelf.now ≢ Less) }
+    ensures none { IsNone result → (other : _) → ⟦<Shelf as Ord>⟧.cmp other shelf.now ≢ Less
+        → value_at ⟦<Shelf as Ord>⟧.cmp stock.now.pairs other ≡ None }
+    ensures next { IfSome result (λ p. (other : _) → ⟦<Shelf as Ord>⟧.cmp other shelf.now ≢ Less
+        → IsSome (value_at ⟦<Shelf as Ord>⟧.cmp stock.now.pairs other) → ⟦<Shelf as Ord>⟧.cmp other p.0 ≢ Less) }
+{
+    let (found, count) = stock.ceiling(shelf)?;
+    Some((*found, *count))
+}
