@@ -39,7 +39,8 @@ def lines(names=ROWS):
 def shown(picos):
     """Nanoseconds, with about two significant digits."""
     nanos = picos / 1000
-    return f"{nanos:{'.2f' if nanos < 1 else '.1f' if nanos < 10 else ',.0f'}}"
+    layout = ".2f" if nanos < 1 else ".1f" if nanos < 10 else ",.0f"
+    return f"{nanos:{layout}}"
 
 
 def found_there(theirs, measure):

@@ -1,4 +1,6 @@
 //! What the callers return, a line or a few for each.
+ghost use Rattle.std.specs.Prelude.{◌≡◌};
+
 use crate::bag::Bag;
 use crate::calendar::{self, Calendar};
 use crate::collection::{self, Config};
