@@ -64,7 +64,8 @@ pub fn move_to(stock: &mut Stock, from: &Shelf, to: Shelf) -> Option<u32>
     ensures moved { IsSome (value_at ⟦<Shelf as Ord>⟧.cmp stock.old.pairs from.now)
         → value_at ⟦<Shelf as Ord>⟧.cmp stock.new.pairs to ≡ value_at ⟦<Shelf as Ord>⟧.cmp stock.old.pairs from.now }
     ensures gone { value_at ⟦<Shelf as Ord>⟧.cmp stock.new.pairs from.now ≡ None }
-    ensures others { (other : _) → is_eq (⟦<Shelf as Ord>⟧.cmp other from.now) ≡ false → is_eq (⟦<Shelf as Ord>⟧.cmp other to) ≡ false
+    ensures others { (other : _) → is_eq (⟦<Shelf as Ord>⟧.cmp other from.now) ≡ false
+        → is_eq (⟦<Shelf as Ord>⟧.cmp other to) ≡ false
         → value_at ⟦<Shelf as Ord>⟧.cmp stock.new.pairs other ≡ value_at ⟦<Shelf as Ord>⟧.cmp stock.old.pairs other }
 {
     let count = stock.remove(from)?;
