@@ -1,6 +1,8 @@
 //! Keys of a type of a caller's own, in the order that it derives. All other shelves are those for which `cmp` doesn't return
 //! `Equal`: said by `is_eq`, it is proved after two changes, too.
-ghost use Rattle.std.specs.Prelude.{◌≡◌, ◌≢◌, None, Some, IfSome, IsNone, IsSome, IsTrue, OnErr, OnOk, false, is_some};
+ghost use Rattle.std.specs.Prelude.{◌≡◌, ◌≢◌, ◌+◌, None, Some, IfOk, IfSome, IsNone, IsSome, IsTrue, OnErr, OnOk, false, is_some};
+ghost use Rattle.std.specs.Prelude.{sum, unwrap_or};
+ghost use Rattle.std.specs.Map.{values_of};
 ghost use Rattle.std.specs.Ordering.{is_eq};
 ghost use Rattle.std.specs.declared.cmp.Ordering.TheVariants.{Less};
 ghost use Rattle.litemap_store.specs.Pairs.{at, value_at};
@@ -83,4 +85,32 @@ pub fn next_from(stock: &Stock, shelf: &Shelf) -> Option<(Shelf, u32)>
 {
     let (found, count) = stock.ceiling(shelf)?;
     Some((*found, *count))
+}
+
+/// The shelf at an index, and how many are there, which a lookup finds.
+pub fn shelf_at(stock: &Stock, index: usize) -> Option<(Shelf, u32)>
+    ensures { IfSome result (λ p. value_at ⟦<Shelf as Ord>⟧.cmp stock.now.pairs p.0 ≡ Some p.1) }
+{
+    stock.keys_ascend();
+    let (shelf, count) = stock.get_indexed(index)?;
+    Some((*shelf, *count))
+}
+
+/// Drops the empty shelves. All others stay.
+pub fn drop_empty(stock: &mut Stock)
+    ensures dropped { (shelf : _) → value_at ⟦<Shelf as Ord>⟧.cmp stock.old.pairs shelf ≡ Some 0
+        → value_at ⟦<Shelf as Ord>⟧.cmp stock.new.pairs shelf ≡ None }
+    ensures others { (shelf : _) → value_at ⟦<Shelf as Ord>⟧.cmp stock.old.pairs shelf ≢ Some 0
+        → value_at ⟦<Shelf as Ord>⟧.cmp stock.new.pairs shelf ≡ value_at ⟦<Shelf as Ord>⟧.cmp stock.old.pairs shelf }
+{
+    stock.retain(|_, count| *count != 0);
+}
+
+/// Sets how many are on a shelf, and returns how many were: the sum of all changes by the difference.
+pub fn restock(stock: &mut Stock, shelf: Shelf, count: u32) -> Result<Option<u32>, AllocError>
+    ensures { IfOk result (λ old. sum (values_of stock.new.pairs) + unwrap_or old 0
+        ≡ sum (values_of stock.old.pairs) + count) }
+{
+    stock.keys_ascend();
+    Ok(stock.insert(shelf, count)?)
 }

@@ -115,6 +115,14 @@ fn show_shelves(rt: &impl Print, alloc: Global) -> io::Result<()> {
     let cleared = shelves::clear(&mut stock, &low);
     println!(rt;
         "shelves corrected {is_there}, moved to {found:?}, next {next:?}, cleared {cleared:?}"
+    )?;
+    let replaced = shelves::restock(&mut stock, high, 4)?;
+    shelves::set(&mut stock, low, 0)?;
+    shelves::drop_empty(&mut stock);
+    let first = shelves::shelf_at(&stock, 0).map(|(shelf, count)| (shelf.number, count));
+    println!(rt;
+        "restocked from {replaced:?}, first {first:?} of {} shelves",
+        stock.len()
     )
 }
 

@@ -11,12 +11,12 @@ pub use Rattle.std.proofs.lemmas.Option.{get_or_from_slice_get, slice_get_read, 
 pub use Rattle.std.proofs.lemmas.Result.{on_ok_weaker}
 pub use Rattle.std.specs.Cmp.{IsTotalOrder, then_agrees, tied_itself}
 pub use Rattle.std.specs.Cmp.Lexicographic.{lists_agrees, nat_list_cmp_total, on_texts, pointwise, slice_cmp, slice_partial_cmp}
-pub use Rattle.std.specs.Fn.{FnOnceReturnsAt, FnOnceTakesAt, FnReturnsAt, Once, Shared}
+pub use Rattle.std.specs.Fn.{FnOnceReturnsAt, FnOnceTakesAt, Once, Shared}
 pub use Rattle.std.specs.List.{AllAdjacentBelow, AllByRecursion, items_where_true, list_all}
 pub use Rattle.std.specs.Map.{keys_of}
 pub use Rattle.std.specs.Map.Iter.{TakesFirst, deref_pair}
 pub use Rattle.std.specs.Option.{option_map_or, option_or}
-pub use Rattle.litemap_store.proofs.Callers.Lookups.{at-filter_kept, at-put, index_of-put, value_at-between_apart, value_at-cut}
+pub use Rattle.litemap_store.proofs.Callers.Lookups.{at-filter_kept, at-put, value_at-between_apart, value_at-cut}
 pub use Rattle.litemap_store.proofs.Callers.Lookups.{value_at-cut_apart, value_at-cut_other, value_at-put, value_at-put_other, value_at-set, value_at-write}
 pub use Rattle.litemap_store.proofs.Callers.Lookups.{value_at-write_apart, value_at-written_apart, value_in-set}
 pub use Rattle.litemap_store.proofs.Callers.MergeLookups.{at-rising, at-same, key_alike, key_same, value_at-left, value_at-merged}

@@ -6,12 +6,11 @@ pub mod Common
 pub mod Conversions
 pub mod Ends
 pub mod Entries
+pub mod Keys
 pub mod KeptWriting
 pub mod Lending
-pub mod Lists
 pub mod MergedTests
 pub mod Nearest
-pub mod Numbers
 pub mod Outcomes
 pub mod Parting
 pub mod Parts

@@ -1,22 +1,25 @@
 -- Strings and bytes as keys: what lookups find after a put, a write, a cut and a merge, and what clones of strings are. A
--- caller's function takes these by an attribute, as `#[tactic(auto, using(litemap::proofs::Texts::string_keys))]`.
---     string_keys      for `String` keys, looked up by keys;  text_keys      the same, looked up by strings
+-- caller's function takes these by an attribute, as `#[tactic(auto, using(litemap::proofs::Texts::text_keys))]`.
+--     text_keys      for `String` keys, looked up by strings
 --     texts      fewer for lookups by strings, with which the search gets further: for several changes in one body, or an `entry`
---     byte_keys      for `Vec<u8>` keys, looked up by bytes;  str_keys      for `&str` and `&[u8]` keys
+--     byte_keys      for `Vec<u8>` keys, looked up by bytes
 --     key_is_text      a `String` key finds what its string finds;  by_bytes_total      the law of the order of `&str` and `&[u8]` keys, for counts
+--     text_lists      what is found in a map of a list, and after more pairs, looked up by strings
 --     text_combined      what `extend_with` leaves, looked up by strings
 --     text_clones      the condition of `try_clone` and of the conversions, for `String` keys
-use Rattle.litemap.proofs.Common.{◌≡◌, ◌≢◌, ◌∷◌, ◌++◌, List, Option, Some, None, Ok, option_map, IsSome, String, Vec, Bor, ℕ, cond, is_some}
+use Rattle.litemap.proofs.Common.{◌≡◌, ◌≢◌, ◌∷◌, ◌++◌, List, Option, Some, None, option_map, IsSome, String, Vec, Bor, ℕ, cond, is_some}
 use Rattle.litemap.proofs.Common.{slice_get, slice_set, refl, ap, sym, ◌∙◌, is_eq, nat_cmp, Ordering, Less, Equal, Greater, IsTotalOrder, slice_cmp}
-use Rattle.litemap.proofs.Common.{Rising, nat_list_cmp_total, on_texts, option_or, string_bytes, string_cmp, Merge, left, above, at}
-use Rattle.litemap.proofs.Common.{below, cut, index_of, key_or, place, put, value_at, write, value_at-cut, value_at-cut_other}
-use Rattle.litemap.proofs.Common.{value_at-put, value_at-put_other, value_at-write, value_at-write_apart, value_in-set}
-use Rattle.litemap.proofs.Common.{index_of-put, value_at-between_apart, value_at-cut_apart, value_at-set, value_at-written_apart}
+use Rattle.litemap.proofs.Common.{Rising, nat_list_cmp_total, on_texts, option_or, reverse, string_bytes, string_cmp, Merge, left, above, at}
+use Rattle.litemap.proofs.Common.{below, cut, key_or, put, value_at, write, value_at-cut}
+use Rattle.litemap.proofs.Common.{value_at-put, value_at-write, value_at-write_apart, value_in-set}
+use Rattle.litemap.proofs.Common.{value_at-between_apart, value_at-cut_apart, value_at-set}
 use Rattle.litemap.proofs.Common.{key_alike, key_same, value_at-left, value_at-merged, key_or_equal}
 use Rattle.std.proofs.lemmas.Cmp.{tied_itself}
 use Rattle.std.proofs.lemmas.Map.Lookups.{exact_bytes}
 use Rattle.std.specs.String.{string_cmp_total}
 use Rattle.std.specs.Option.{option_map_or}
+use Rattle.litemap_store.specs.Last.{Last}
+use Rattle.litemap_store.proofs.Callers.LastLookups.{value_at-last, value_at-last_of_more, value_at-last_of_rising}
 use Rattle.litemap_store.specs.Queries.{OneSide, by_slice, by_string, key_one_side}
 use Rattle.litemap_store.proofs.Names.{cons_option}
 use Rattle.litemap_store.proofs.Search.Splitting.{parted}
@@ -73,41 +76,7 @@ module _ {Z : Type 0} (t : List ℕ) (x y : String Z) where
   alike_bytes = key_alike nat_list_cmp_total t (string_bytes x) (string_bytes y)
 
 module _ {V Z : Type 0} where
-  -- ---- `String`, looked up by keys
-
-  pub string_put_found : (L : List (String Z × V)) (k : String Z) (v : V) → value_at string_cmp (put string_cmp L k v) k ≡ Some v
-  string_put_found L k v = value_at-put string_cmp_total k L v
-
-  pub string_put_others : (L : List (String Z × V)) (k q : String Z) (v : V) → string_cmp q k ≢ Equal → value_at string_cmp (put string_cmp L k v) q
-      ≡ value_at string_cmp L q
-  string_put_others L k q v differs = value_at-put_other string_cmp_total L k q differs v
-
-  pub string_cut_gone : (L : List (String Z × V)) (k : String Z) → value_at string_cmp (cut string_cmp L k) k ≡ None
-  string_cut_gone L k = value_at-cut string_cmp k L
-
-  pub string_cut_others : (L : List (String Z × V)) (k q : String Z) → string_cmp q k ≢ Equal → value_at string_cmp (cut string_cmp L k) q
-      ≡ value_at string_cmp L q
-  string_cut_others L k q differs = value_at-cut_other string_cmp_total L k q differs
-
-  pub string_write_found : (L : List (String Z × V)) (k : String Z) (v : V) → IsSome (at string_cmp L k) → value_at string_cmp (write string_cmp L k v) k
-      ≡ Some v
-  string_write_found L k v there = value_at-write string_cmp k L v there
-
-  -- what a write leaves if it finds the key
-  pub string_written_others : (L : List (String Z × V)) (k q : String Z) (p : String Z × V) (v : V) → at string_cmp L k ≡ Some p → string_cmp q k ≢ Equal
-      → value_at string_cmp (below string_cmp L k ++ (p.0, v) ∷ above string_cmp L k) q ≡ value_at string_cmp L q
-  string_written_others L k q p v is n = value_at-written_apart string_cmp k string_cmp q (string_cmp q k) n (λ x e. string_cmp_total.congr x q k e) L p v is
-
-  pub string_merged : (A B M : List (String Z × V)) (k : String Z) → Merge string_cmp A B M
-      → value_at string_cmp M k ≡ option_or (value_at string_cmp B k) (value_at string_cmp A k)
-  string_merged A B M k merge =
-      value_at-merged string_cmp string_cmp_total string_cmp k (key_same string_cmp_total k) (key_alike string_cmp_total k) A B M merge
-
-  pub string_left : (A B : List (String Z × V)) (k : String Z) → value_at string_cmp (left string_cmp A B) k
-      ≡ cond (is_some (at string_cmp B k)) (value_at string_cmp A k) None
-  string_left A B k = value_at-left string_cmp string_cmp_total string_cmp k (key_same string_cmp_total k) (key_alike string_cmp_total k) A B
-
-  -- ---- the same, looked up by strings
+  -- ---- `String`, looked up by strings
 
   pub key_is_text : (L : List (String Z × V)) (k : String Z) → value_at string_cmp L k ≡ value_at by_string L (string_bytes k)
   key_is_text L k = refl
@@ -149,10 +118,6 @@ module _ {V Z : Type 0} where
       → value_at by_string (slice_set L i (p.0, v)) u ≡ value_at by_string L u
   text_set_others L i u p v is n = value_at-set by_string u L i p v is (λ e. n (exact_bytes (string_bytes p.0) u e))
 
-  pub text_put_place : (L : List (String Z × V)) (k : String Z) (v : V) → index_of by_string (put string_cmp L k v) (string_bytes k)
-      ≡ Ok (place by_string L (string_bytes k))
-  text_put_place L k v = index_of-put string_cmp_total k L v
-
   pub text_merged : (A B M : List (String Z × V)) (t : List ℕ) → Merge string_cmp A B M
       → value_at by_string M t ≡ option_or (value_at by_string B t) (value_at by_string A t)
   text_merged A B M t merge = value_at-merged string_cmp string_cmp_total by_string t (same_bytes t) (alike_bytes t) A B M merge
@@ -160,6 +125,17 @@ module _ {V Z : Type 0} where
   pub text_left : (A B : List (String Z × V)) (t : List ℕ) → value_at by_string (left string_cmp A B) t
       ≡ cond (is_some (at by_string B t)) (value_at by_string A t) None
   text_left A B t = value_at-left string_cmp string_cmp_total by_string t (same_bytes t) (alike_bytes t) A B
+
+  pub text_list_last : (J M : List (String Z × V)) (t : List ℕ) → Last string_cmp J M → value_at by_string M t ≡ value_at by_string (reverse J) t
+  text_list_last J M t last = value_at-last string_cmp string_cmp_total by_string t (same_bytes t) (alike_bytes t) J M last
+
+  pub text_more_last : (L J M : List (String Z × V)) (t : List ℕ) → Last string_cmp (L ++ J) M → Rising string_cmp L
+      → value_at by_string M t ≡ option_or (value_at by_string (reverse J) t) (value_at by_string L t)
+  text_more_last L J M t last r = value_at-last_of_more string_cmp string_cmp_total by_string t (same_bytes t) (alike_bytes t) L J M last r
+
+  pub text_more_rising : (L J M : List (String Z × V)) (t : List ℕ) → Last string_cmp (L ++ J) M → Rising string_cmp L → Rising string_cmp J
+      → value_at by_string M t ≡ option_or (value_at by_string J t) (value_at by_string L t)
+  text_more_rising L J M t last r s = value_at-last_of_rising string_cmp string_cmp_total by_string t (same_bytes t) (alike_bytes t) L J M last r s
 
   pub text_combined : (combine : String Z → V → V → V) (A B M : List (String Z × V)) (t : List ℕ) → Merge string_cmp A (combined string_cmp combine A B) M
       → value_at by_string M t ≡ found_with combine (value_at by_string A t) (at by_string B t)
@@ -188,54 +164,9 @@ module _ {V Z : Type 0} where
       ≡ value_at (by_slice nat_cmp) L u
   byte_cut_others L t u n = cut_others (λ k. k.items) L t u n
 
-module _ {V : Type 0} where
-  pub str_put_found : (L : List (Bor (List ℕ) × V)) (k : Bor (List ℕ)) (v : V) → value_at by_bytes (put by_bytes L k v) k ≡ Some v
-  str_put_found L k v = value_at-put by_bytes_total k L v
-
-  pub str_put_others : (L : List (Bor (List ℕ) × V)) (k q : Bor (List ℕ)) (v : V) → by_bytes q k ≢ Equal → value_at by_bytes (put by_bytes L k v) q
-      ≡ value_at by_bytes L q
-  str_put_others L k q v differs = value_at-put_other by_bytes_total L k q differs v
-
-  pub str_cut_gone : (L : List (Bor (List ℕ) × V)) (k : Bor (List ℕ)) → value_at by_bytes (cut by_bytes L k) k ≡ None
-  str_cut_gone L k = value_at-cut by_bytes k L
-
-  pub str_cut_others : (L : List (Bor (List ℕ) × V)) (k q : Bor (List ℕ)) → by_bytes q k ≢ Equal → value_at by_bytes (cut by_bytes L k) q
-      ≡ value_at by_bytes L q
-  str_cut_others L k q differs = value_at-cut_other by_bytes_total L k q differs
-
-  pub str_write_found : (L : List (Bor (List ℕ) × V)) (k : Bor (List ℕ)) (v : V) → IsSome (at by_bytes L k) → value_at by_bytes (write by_bytes L k v) k
-      ≡ Some v
-  str_write_found L k v there = value_at-write by_bytes k L v there
-
-  -- what a write leaves if it finds the key
-  pub str_written_others : (L : List (Bor (List ℕ) × V)) (k q : Bor (List ℕ)) (p : Bor (List ℕ) × V) (v : V) → at by_bytes L k ≡ Some p → by_bytes q k ≢ Equal
-      → value_at by_bytes (below by_bytes L k ++ (p.0, v) ∷ above by_bytes L k) q ≡ value_at by_bytes L q
-  str_written_others L k q p v is n = value_at-written_apart by_bytes k by_bytes q (by_bytes q k) n (λ x e. by_bytes_total.congr x q k e) L p v is
-
-  pub str_merged : (A B M : List (Bor (List ℕ) × V)) (k : Bor (List ℕ)) → Merge by_bytes A B M
-      → value_at by_bytes M k ≡ option_or (value_at by_bytes B k) (value_at by_bytes A k)
-  str_merged A B M k merge = value_at-merged by_bytes by_bytes_total by_bytes k (key_same by_bytes_total k) (key_alike by_bytes_total k) A B M merge
-
-  pub str_left : (A B : List (Bor (List ℕ) × V)) (k : Bor (List ℕ)) → value_at by_bytes (left by_bytes A B) k
-      ≡ cond (is_some (at by_bytes B k)) (value_at by_bytes A k) None
-  str_left A B k = value_at-left by_bytes by_bytes_total by_bytes k (key_same by_bytes_total k) (key_alike by_bytes_total k) A B
-
-pub ruleset string_keys = (
-  string_put_found,
-  string_put_others,
-  string_write_found,
-  string_written_others,
-  string_cut_gone,
-  string_cut_others,
-  string_merged,
-  string_left,
-  value_in-set,
-)
-
 pub ruleset text_keys = (
   text_put_found,
   text_put,
-  text_put_place,
   text_put_others,
   text_write_found,
   text_write_others,
@@ -260,19 +191,9 @@ pub ruleset texts = (
   key_is_text,
 )
 
-pub ruleset byte_keys = (byte_write_found, byte_write_others, byte_cut_gone, byte_cut_others, value_in-set)
+pub ruleset text_lists = (text_list_last, text_more_last, text_more_rising)
 
-pub ruleset str_keys = (
-  str_put_found,
-  str_put_others,
-  str_write_found,
-  str_written_others,
-  str_cut_gone,
-  str_cut_others,
-  str_merged,
-  str_left,
-  value_in-set,
-)
+pub ruleset byte_keys = (byte_write_found, byte_write_others, byte_cut_gone, byte_cut_others, value_in-set)
 
 -- a clone of a string has its bytes
 pub text_clone_equal : {Z : Type 0} (text clone : String Z) → string_bytes clone ≡ string_bytes text → string_cmp text clone ≡ Equal

@@ -1,5 +1,6 @@
 //! Calls that look at a map. None takes memory. A lookup of a key makes O(log n) comparisons.
 ghost use Rattle.std.specs.Prelude.{◌≡◌, ◌==◌, ◌-◌, ◌<◌, [], IfOk, IfSome, IsNone, IsSome, Some, is_some, length, slice_get};
+ghost use Rattle.std.specs.Cmp.{IsTotalOrder};
 ghost use Rattle.std.specs.Map.Iter.{deref_pair};
 ghost use Rattle.std.specs.Option.{option_copied, option_map};
 ghost use Rattle.litemap_store.specs.Counts.{RisesByAtMost, digits};
@@ -31,9 +32,11 @@ impl<K: Ord, V, S: Store<K, V>> LiteMap<K, V, S> {
         self.store.lm_len()
     }
 
-    /// Does nothing, but promises to a caller's proof that the keys are strictly ascending, as those of every map are (own).
+    /// Does nothing, but promises to a caller's proof what holds of every map: the keys are strictly ascending, and their order
+    /// is total (own).
     pub fn keys_ascend(&self)
-        ensures { Rising K.cmp self.now.pairs }
+        ensures rising { Rising K.cmp self.now.pairs }
+        ensures order { IsTotalOrder K.cmp }
     {
         let _opened = &self.store;
     }

@@ -1,14 +1,14 @@
 -- What a lookup finds in a list after a put and after a cut: lemmas for the proofs of callers. A proof takes the order's laws
 -- from its bound, as `g.met.K.Ord.total`, or from std, as `nat_cmp_total` and `string_cmp_total`.
---     at-put, value_at-put, value_at-put_other, place-put, index_of-put      after a put
+--     at-put, value_at-put, value_at-put_other      after a put
 --     value_at-cut, value_at-cut_other, value_at-cut_apart      after a cut, by the query, by another key, and by another query
 --     value_at-write, value_at-write_apart      the same after a write;  value_at-written_apart      if a write finds the key
 --     value_in-set_value_other, value_at-set_value      after a write at an index;  value_in-set, value_at-set      if a pair is there
 --     length-put_present, length-put_absent, Rising-cut      what both leave of an ascending list
-use Rattle.litemap_store.proofs.Names.{[], ℕ, ◌++◌, ◌+◌, ◌∙◌, ◌∷◌, ◌≡◌, ◌≢◌, above, ap, append-nil, arith, at, below, Bool, cond, cons_option, cut, Equal}
-use Rattle.litemap_store.proofs.Names.{false, filter, filter-append, find-append, Greater, IfSome, index_of, is_eq, is_gt, is_lt, IsSome, IsTotalOrder}
-use Rattle.litemap_store.proofs.Names.{key_one_side, key_or, length, length-append, Less, List, None, Ok, Option, option_map, option_map_or, option_or}
-use Rattle.litemap_store.proofs.Names.{Ordering, place, put, refl, Rising, set_value, slice_get, slice_set, Some, suc, sym, true, value_at, value_in, write}
+use Rattle.litemap_store.proofs.Names.{[], ℕ, ◌++◌, ◌+◌, ◌∙◌, ◌∷◌, ◌≡◌, ◌≢◌, above, ap, arith, at, below, Bool, cond, cons_option, cut, Equal}
+use Rattle.litemap_store.proofs.Names.{false, filter, find-append, Greater, IfSome, is_eq, is_gt, is_lt, IsSome, IsTotalOrder}
+use Rattle.litemap_store.proofs.Names.{key_one_side, key_or, length, length-append, Less, List, None, Option, option_map, option_map_or, option_or}
+use Rattle.litemap_store.proofs.Names.{Ordering, put, refl, Rising, set_value, slice_get, slice_set, Some, suc, sym, true, value_at, value_in, write}
 use Rattle.litemap_store.proofs.Names.{zero}
 use Rattle.litemap_store.proofs.Last.KeepLast.{filter_all, filter_none}
 use Rattle.litemap_store.proofs.Lists.Membership.{In-from_filter}
@@ -161,20 +161,6 @@ module _ {K V : Type 0} {cmp : K → K → Ordering} (o : IsTotalOrder cmp) wher
     -- the value that was put is found
     pub value_at-put : (L : List (K × V)) (v : V) → value_at cmp (put cmp L k v) k ≡ Some v
     value_at-put L v = ap (option_map (λ p. p.1)) (at-put L v)
-
-    -- as many keys are smaller as before
-    pub place-put : (L : List (K × V)) (v : V) → place cmp (put cmp L k v) k ≡ place cmp L k
-    place-put L v =
-        let x : K × V = (key_or (at cmp L k) k, v) in
-        let none : below cmp (x ∷ above cmp L k) k ≡ [] = rw (key_or_equal o k L) (below-above cmp k L) in
-        let whole : below cmp (put cmp L k v) k ≡ below cmp L k =
-        filter-append (λ p. is_lt (cmp p.0 k)) (below cmp L k) (x ∷ above cmp L k) ∙ ap (λ M. M ++ below cmp (x ∷ above cmp L k) k) (below-below cmp k L)
-        ∙ ap (λ M. below cmp L k ++ M) none ∙ append-nil (below cmp L k) in
-        ap length whole
-
-    -- and there the key is found
-    pub index_of-put : (L : List (K × V)) (v : V) → index_of cmp (put cmp L k v) k ≡ Ok (place cmp L k)
-    index_of-put L v = rw (at-put L v) (ap Ok (place-put L v))
 
   -- ---- every other key
   module _ (L : List (K × V)) (k q : K) (differs : cmp q k ≢ Equal) where

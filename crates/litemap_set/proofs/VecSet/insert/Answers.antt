@@ -41,10 +41,10 @@ returns g c =
       added = added;
       updates = λ q. rw inserts.put (contains-put g.met.K.Ord.total L key tt q);
       len = rw (added, inserts.put) (
-          length-put g.met.K.Ord.total L key tt c.keys_ascend.ensures ∙ ap (λ b. length (keys_of L) + cond (not b) 1 0) (contains-keys g.K.Ord.cmp key L)
+          length-put g.met.K.Ord.total L key tt c.keys_ascend.ensures.rising ∙ ap (λ b. length (keys_of L) + cond (not b) 1 0) (contains-keys g.K.Ord.cmp key L)
           );
       present = on_false c.is_none.result
-          (λ h. rw inserts.put (keys-put g.met.K.Ord.total L key tt c.keys_ascend.ensures (contains-keys g.K.Ord.cmp key L ∙ there h)));
+          (λ h. rw inserts.put (keys-put g.met.K.Ord.total L key tt c.keys_ascend.ensures.rising (contains-keys g.K.Ord.cmp key L ∙ there h)));
       room_kept = on_false c.is_none.result (λ h. inserts.room_kept (contains-keys g.K.Ord.cmp key L ∙ there h));
       absent = tt;
       full = tt;

@@ -18,13 +18,13 @@ returns g c =
     let L = c.self.inside.map.pairs in
     let found : c.is_some.result ≡ contains order (keys_of L) q = c.is_some.ensures ∙ ap is_some c.remove.ensures.value ∙ contains-value order q L in
     let keys : keys_of c.remove.new.self.pairs ≡ filter (λ k. not (is_eq (order k q))) (keys_of L) =
-    rw c.remove.ensures.removed.cut (keys-cut order g.met.Q.Query.one_side q L c.keys_ascend.ensures) in
+    rw c.remove.ensures.removed.cut (keys-cut order g.met.Q.Query.one_side q L c.keys_ascend.ensures.rising) in
     rw (← c.self.view_is) (record {
       found = found;
       gone = rw keys (none-kept order q (keys_of L));
       keys = keys;
       others = λ test apart. rw keys (any-kept order q test apart (keys_of L));
-      len = rw (found, c.remove.ensures.removed.cut) (length-cut order g.met.Q.Query.one_side q L c.keys_ascend.ensures);
+      len = rw (found, c.remove.ensures.removed.cut) (length-cut order g.met.Q.Query.one_side q L c.keys_ascend.ensures.rising);
       unchanged = on_false c.is_some.result (λ none i.
           let same = c.remove.ensures.removed.unchanged (contains-keys order q L ∙ sym found ∙ none) in
           record { keys = keys_of (same i).pairs; room = (same i).room });
