@@ -21,7 +21,8 @@ UNBREAKABLE = {
     " LiteMap::*_keys_of.room LiteMap::remove_by.room LiteMap::remove_indexed.room LiteMap::pop_*.room OccupiedEntry::remove*.room",
     "no body may lose a pair whose type isn't Drop": "insert_reserved.len remove_at.len LiteMap::reserve.pairs"
     " LiteMap::reserve.room_not_lowered LiteMap::update.keys LiteMap::try_update.keys VacantEntry::into_key.key",
-    "each pair of a map is what its key finds": "LiteMap::first.found LiteMap::last.found LiteMap::iter_range.found",
+    "each pair of a map is what its key finds, and each value one of its own": "LiteMap::first.found LiteMap::last.found"
+    " LiteMap::iter_range.found LiteMap::range*.found LiteMap*.member",
     "each slice of a map ascends, and so do the keys of two sets": "LiteMap::as_slice.rising VecSet::*.ascending",
     "it speaks of the type alone": "JsonItem::to_value.reads_back JsonKey::key_text.reads_back",
 }

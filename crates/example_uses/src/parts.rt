@@ -151,6 +151,26 @@ pub fn nearest_from(ages: &Ages, id: u32) -> Option<(u32, u8)>
     Some((*id, *age))
 }
 
+/// The first pair from one key on and before another: a lookup of its key finds it.
+pub fn first_between<K: Ord + Copy>(map: &VecMap<K, u32>, from: K, to: K) -> Option<(K, u32)>
+    ensures found { IfSome result (λ p. value_at K.cmp map.now.pairs p.0 ≡ Some p.1) }
+    ensures from { IfSome result (λ p. K.cmp p.0 from ≢ Less) }
+    ensures before { IfSome result (λ p. K.cmp p.0 to ≡ Less) }
+    ensures none { IsNone result → (other : K) → K.cmp other from ≢ Less → K.cmp other to ≡ Less
+        → value_at K.cmp map.now.pairs other ≡ None }
+{
+    let part = map.range_in(from..to);
+    let (key, count) = part.first()?;
+    Some((*key, *count))
+}
+
+/// A key with this count, the first one in order.
+pub fn key_with<K: Ord + Copy>(map: &VecMap<K, u32>, count: u32) -> Option<K>
+    ensures { IfSome result (λ key. value_at K.cmp map.now.pairs key ≡ Some count) }
+{
+    map.iter().find(|p| *p.1 == count).map(|p| *p.0)
+}
+
 /// Sets a count, and says in one equation what all names find then.
 pub fn set_count(counts: &mut Counts, name: String, count: u32) -> Result<(), AllocError>
     ensures { OnOk result ((other : _) → value_at by_string counts.new.pairs other

@@ -1,10 +1,10 @@
 //! Keys of a type of a caller's own, in the order that it derives. All other shelves are those for which `cmp` doesn't return
 //! `Equal`: said by `is_eq`, it is proved after two changes, too.
 ghost use Rattle.std.specs.Prelude.{◌≡◌, ◌≢◌, ◌+◌, None, Some, IfOk, IfSome, IsNone, IsSome, IsTrue, OnErr, OnOk, false, is_some};
-ghost use Rattle.std.specs.Prelude.{sum, unwrap_or};
+ghost use Rattle.std.specs.Prelude.{◌≤◌, All, sum, unwrap_or};
 ghost use Rattle.std.specs.Map.{values_of};
 ghost use Rattle.std.specs.Ordering.{is_eq};
-ghost use Rattle.std.specs.declared.cmp.Ordering.TheVariants.{Less};
+ghost use Rattle.std.specs.declared.cmp.Ordering.TheVariants.{Equal, Less};
 ghost use Rattle.litemap_store.specs.Pairs.{at, value_at};
 
 use litemap::VecMap;
@@ -94,6 +94,21 @@ pub fn shelf_at(stock: &Stock, index: usize) -> Option<(Shelf, u32)>
     stock.keys_ascend();
     let (shelf, count) = stock.get_indexed(index)?;
     Some((*shelf, *count))
+}
+
+/// How many are on a shelf: no more than 100, if no shelf has more.
+pub fn count_on(stock: &Stock, shelf: &Shelf) -> Option<u32>
+    ensures { All (λ n. n ≤ 100) (values_of stock.now.pairs) → IfSome result (λ n. n ≤ 100) }
+{
+    stock.get(shelf).copied()
+}
+
+/// Takes a shelf out, with what was there. It is the shelf that was meant.
+pub fn take(stock: &mut Stock, shelf: &Shelf) -> Option<(Shelf, u32)>
+    ensures meant { IfSome result (λ p. ⟦<Shelf as Ord>⟧.cmp p.0 shelf.now ≡ Equal) }
+    ensures gone { value_at ⟦<Shelf as Ord>⟧.cmp stock.new.pairs shelf.now ≡ None }
+{
+    stock.remove_entry(shelf)
 }
 
 /// Drops the empty shelves. All others stay.

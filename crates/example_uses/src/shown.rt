@@ -123,7 +123,15 @@ fn show_shelves(rt: &impl Print, alloc: Global) -> io::Result<()> {
     println!(rt;
         "restocked from {replaced:?}, first {first:?} of {} shelves",
         stock.len()
-    )
+    )?;
+    let on = shelves::count_on(&stock, &high);
+    let from = parts::first_between(&stock, low, shelf(3)).map(|(shelf, count)| (
+        shelf.number,
+        count,
+    ));
+    let four = parts::key_with(&stock, 4).map(|shelf| shelf.number);
+    let took = shelves::take(&mut stock, &high).map(|(shelf, count)| (shelf.number, count));
+    println!(rt; "on it {on:?}, from 1 on {from:?}, four on {four:?}, taken {took:?}")
 }
 
 fn shelf(number: u8) -> Shelf

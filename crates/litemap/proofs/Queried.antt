@@ -1,12 +1,16 @@
 -- What any query finds, by its test of pairs, in what a call leaves that changes more than one key.
 --     keeps_part      in a part;  takes_at      once a pair was taken out;  is_least, is_greatest      at the ends
 --     retains      in what a closure keeps;  leaves_of      in what a closure wrote
+--     member      the value that is found is one of the map's
 use Rattle.litemap.proofs.Common.{◌≡◌, ◌≢◌, ◌∙◌, ◌∷◌, ◌++◌, ◌-◌, ◌&&◌, [], Bool, true, false, true≢false, List, Option, None, Some, ap, arith, cond, drop}
 use Rattle.litemap.proofs.Common.{filter, ℕ, ◌+◌, drop_at, remove, suc, inl, inr, length, option_map, refl, slice_get, subst, sym, take, items_where_true}
 use Rattle.litemap.proofs.Common.{Bor, MutBor, Mut, Ordering, at_in, equal_from_is_eq, is_eq, IsNone, IsSome, at, Less, Equal, Greater, IsTotalOrder}
-use Rattle.litemap.proofs.Common.{Rising, at-rising, deref_pair, greater_back, key_alike, key_same, less_back, tied_itself}
-use Rattle.std.proofs.Common.{find, IfSome}
-use Rattle.std.specs.List.{AllByRecursion}
+use Rattle.litemap.proofs.Common.{value_at, Rising, at-rising, deref_pair, greater_back, key_alike, key_same, less_back, tied_itself}
+use Rattle.std.proofs.Common.{All, find, IfSome}
+use Rattle.std.proofs.lemmas.List.Elements.{All-from_recursion}
+use Rattle.std.specs.List.{AllByRecursion, IsAmong}
+use Rattle.std.specs.Map.{values_of}
+use Rattle.std.specs.Option.{option_copied}
 use Rattle.std.specs.List.Retain.{ReturnsInTurn}
 use Rattle.std.proofs.lemmas.List.Folds.{find-append}
 use Rattle.std.proofs.lemmas.List.{take-append-drop}
@@ -145,16 +149,42 @@ module _ {K V : Type 0} {cmp : K → K → Ordering} (o : IsTotalOrder cmp) (L :
             | inr l ↦ λ t. let u : cmp x.0 p.0 ≡ Greater = o.congr x.0 k p.0 f.1 ∙ t in cc
           ]
 
+-- the value that a lookup finds is among those of the pairs
+module _ {K Q V : Type 0} (order : K → Q → Ordering) (q : Q) where
+  among : (L : List (K × V)) → IfSome (value_at order L q) (IsAmong (values_of L))
+  among [] = tt
+  among (p ∷ L) = elim (is_eq (order p.0 q)) as (λ b. IfSome (option_map (λ x. x.1) (cond b (Some p) (at order L q))) (IsAmong (values_of (p ∷ L)))) [
+    | true ↦ (0, (omega arith, refl))
+    | false ↦ later (value_at order L q) (among L)
+  ]
+    where
+      later : (o : Option V) → IfSome o (IsAmong (values_of L)) → IfSome o (IsAmong (values_of (p ∷ L)))
+      later None h = tt
+      later (Some v) h = (suc h.0, (omega (arith, h.1.0), h.1.1))
+
+  pub member : (L : List (K × V)) (o : Option V) → o ≡ value_at order L q → IfSome o (IsAmong (values_of L))
+  member L o e = subst (λ r. IfSome r (IsAmong (values_of L))) (sym e) (among L)
+
+  pub member_lent : (L : List (K × V)) (r : Option (Bor V)) → option_copied r ≡ value_at order L q → IfSome r (λ v. IsAmong (values_of L) v.now)
+  member_lent L None e = tt
+  member_lent L (Some v) e = member L (Some v.now) e
+
 -- the same of a pair of references
 module _ {K V : Type 0} {cmp : K → K → Ordering} (o : IsTotalOrder cmp) (L : List (K × V)) (r : Rising cmp L) where
   pub found_there : (i : ℕ) (p : Option (Bor K × Bor V)) → option_map deref_pair p ≡ slice_get L i → IfSome p (λ q. at cmp L q.0.now ≡ Some (deref_pair q))
   found_there i None e = tt
   found_there i (Some q) e = at-index cmp o cmp q.0.now (key_same o q.0.now) (key_alike o q.0.now) L i (deref_pair q) r (sym e) (tied_itself o q.0.now)
 
-  -- each pair that a filter keeps is what its key finds
+  -- each pair is what its key finds, and so are those that a filter keeps
+  each_found : (p : K × V) → In p L → at cmp L p.0 ≡ Some p
+  each_found p i = at-rising cmp o cmp p.0 (key_same o p.0) (key_alike o p.0) L p r i (tied_itself o p.0)
+
+  pub all_found : All (λ p. at cmp L p.0 ≡ Some p) L
+  all_found = All-from_recursion _ L (from_each _ L each_found)
+
   pub kept_found : (keep : K × V → Bool) (M : List (K × V)) → M ≡ filter keep L → AllByRecursion (λ p. at cmp L p.0 ≡ Some p) M
-  kept_found keep M e = subst (AllByRecursion (λ p. at cmp L p.0 ≡ Some p)) (sym e) (from_each (λ p. at cmp L p.0 ≡ Some p) (filter keep L) (λ p i.
-      at-rising cmp o cmp p.0 (key_same o p.0) (key_alike o p.0) L p r (In-from_filter keep L p i).0 (tied_itself o p.0)))
+  kept_found keep M e = subst (AllByRecursion (λ p. at cmp L p.0 ≡ Some p)) (sym e)
+      (from_each (λ p. at cmp L p.0 ≡ Some p) (filter keep L) (λ p i. each_found p (In-from_filter keep L p i).0))
 
   pub least_there : (p : Option (Bor K × Bor V)) → option_map deref_pair p ≡ slice_get L 0 → IfSome p (λ q. IsLeast cmp (deref_pair q) L)
   least_there None e = tt

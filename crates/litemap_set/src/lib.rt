@@ -3,12 +3,13 @@
 //! side, with at most one comparison for each key of both, and take no memory.
 #![tactic(auto)]
 
-ghost use Rattle.std.specs.Prelude.{◌≡◌, ◌↔◌, ◌==◌, ◌-◌, [], Bool, IfOk, IsTrue, OnErr, OnOk, filter, length, slice_get};
+ghost use Rattle.std.specs.Prelude.{◌≡◌, ◌↔◌, ◌==◌, ◌-◌, [], Bool, IfOk, IfSome, IsTrue, OnErr, OnOk, filter, length, slice_get};
 ghost use Rattle.std.specs.Iterator.{IsFiniteIterable, at_most};
 ghost use Rattle.std.specs.List.Sorted.{IsStrictlySortedBy};
 ghost use Rattle.std.specs.Map.{keys_of};
 ghost use Rattle.std.specs.Map.Iter.{TakesFirst, deref};
 ghost use Rattle.std.specs.Option.{option_copied};
+ghost use Rattle.std.specs.declared.cmp.Ordering.TheVariants.{Equal};
 ghost use Rattle.litemap_store.specs.Bulk.{Gives, GivesSome};
 ghost use Rattle.litemap_set.specs.Sets.{HasLast, IsDifference, IsDisjoint, IsExtendedBy, IsIntersection, IsSubset};
 ghost use Rattle.litemap_set.specs.Sets.{IsSymmetricDifference, IsUnion};
@@ -87,7 +88,8 @@ impl<K: Ord> VecSet<K> {
 
     /// Returns the set's own key that is equal to `key`, or `None` if there is none.
     pub fn get<Q: Query<K>>(&self, key: Q) -> Option<&K>
-        ensures { option_copied result ≡ key_at Q.order self.now.keys (Q.sought key) }
+        ensures key { option_copied result ≡ key_at Q.order self.now.keys (Q.sought key) }
+        ensures same_key { IfSome result (λ k. Q.order k.now (Q.sought key) ≡ Equal) }
     {
         let Some((found, ())) = self.map.get_key_value(key) else {
             return None;

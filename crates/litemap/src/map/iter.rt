@@ -1,11 +1,11 @@
 //! Iterators over the pairs, the keys or the values of a map, double-ended unless they are by value. None takes memory. After
 //! `None` they return `None` for good.
-ghost use Rattle.std.specs.Prelude.{◌≡◌, length, Some};
+ghost use Rattle.std.specs.Prelude.{◌≡◌, All, length, Some};
 ghost use Rattle.std.specs.Iterator.{at_most};
 ghost use Rattle.std.specs.Map.{keys_of, values_of};
 ghost use Rattle.std.specs.Map.Iter.{TakesFirst, TakesLast, deref, deref_pair};
 ghost use Rattle.litemap_store.specs.Hints.{HintsExactly};
-ghost use Rattle.litemap_store.specs.Pairs.{Rising};
+ghost use Rattle.litemap_store.specs.Pairs.{Rising, at};
 ghost use Rattle.litemap.specs.Runs.{KeysInOrder, RunsInOrder, ValuesInOrder};
 
 mod range;
@@ -27,6 +27,8 @@ impl<'a, K: Ord + 'a, V: 'a, S: StoreIterable<'a, K, V>> LiteMap<K, V, S> {
         ensures rest { S.KeyValueIter.rest result ≡ self.now.pairs }
         ensures rising { Rising K.cmp self.now.pairs }
         ensures runs { RunsInOrder S.KeyValueIter.next_gives (deref_pair {K = K} {X = V}) S.KeyValueIter.rest }
+        // Each pair is what its key finds.
+        ensures found { All (λ p. at K.cmp self.now.pairs p.0 ≡ Some p) self.now.pairs }
     {
         self.store.lm_iter()
     }

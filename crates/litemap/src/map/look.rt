@@ -1,13 +1,15 @@
 //! Calls that look at a map. None takes memory. A lookup of a key makes O(log n) comparisons.
 ghost use Rattle.std.specs.Prelude.{◌≡◌, ◌==◌, ◌-◌, ◌<◌, [], IfOk, IfSome, IsNone, IsSome, Some, is_some, length, slice_get};
 ghost use Rattle.std.specs.Cmp.{IsTotalOrder};
+ghost use Rattle.std.specs.List.{IsAmong};
+ghost use Rattle.std.specs.Map.{values_of};
 ghost use Rattle.std.specs.Map.Iter.{deref_pair};
 ghost use Rattle.std.specs.Option.{option_copied, option_map};
 ghost use Rattle.litemap_store.specs.Counts.{RisesByAtMost, digits};
 ghost use Rattle.litemap_store.specs.Pairs.{Rising, at, value_at, value_in};
 ghost use Rattle.litemap_store.specs.Search.{CallableOnKeys, Found};
 ghost use Rattle.litemap_store.specs.Splits.{Splits};
-ghost use Rattle.std.specs.declared.cmp.Ordering.TheVariants.{Greater, Less};
+ghost use Rattle.std.specs.declared.cmp.Ordering.TheVariants.{Equal, Greater, Less};
 ghost use Rattle.litemap.specs.FoundBy.{FindsIndex, GetsFound};
 ghost use Rattle.litemap.specs.Updates.{IsGreatest, IsLeast};
 ghost use Rattle.litemap.specs.Nearest.{Nearest};
@@ -88,6 +90,7 @@ impl<K: Ord, V, S: Store<K, V>> LiteMap<K, V, S> {
     /// ```
     pub fn get<Q: Query<K>>(&self, key: Q) -> Option<&V>
         ensures value { option_copied result ≡ value_at Q.order self.now.pairs (Q.sought key) }
+        ensures member { IfSome result (λ v. IsAmong (values_of self.now.pairs) v.now) }
         ensures rising { Rising K.cmp self.now.pairs }
     {
         self.get_counted(key, &mut Count::new())
@@ -96,6 +99,7 @@ impl<K: Ord, V, S: Store<K, V>> LiteMap<K, V, S> {
     /// `get`, counting its comparisons (own).
     pub fn get_counted<Q: Query<K>>(&self, key: Q, count: &mut Count) -> Option<&V>
         ensures value { option_copied result ≡ value_at Q.order self.now.pairs (Q.sought key) }
+        ensures member { IfSome result (λ v. IsAmong (values_of self.now.pairs) v.now) }
         ensures rising { Rising K.cmp self.now.pairs }
         ensures cost { RisesByAtMost (digits (length self.now.pairs)) count.old count.new }
     {
@@ -107,7 +111,8 @@ impl<K: Ord, V, S: Store<K, V>> LiteMap<K, V, S> {
 
     /// Returns the pair with an equal key, or `None` if there is none (own). Its key is the one in the map, if equal keys differ.
     pub fn get_key_value<Q: Query<K>>(&self, key: Q) -> Option<(&K, &V)>
-        ensures { option_map deref_pair result ≡ at Q.order self.now.pairs (Q.sought key) }
+        ensures pair { option_map deref_pair result ≡ at Q.order self.now.pairs (Q.sought key) }
+        ensures same_key { IfSome result (λ p. Q.order p.0.now (Q.sought key) ≡ Equal) }
     {
         match self.search(key, &mut Count::new()) {
             Ok(index) => self.store.lm_get(index),
@@ -147,7 +152,8 @@ impl<K: Ord, V, S: Store<K, V>> LiteMap<K, V, S> {
     /// (own).
     pub fn index<Q: Query<K>>(&self, key: Q) -> &V
         requires { IsSome (at Q.order self.now.pairs (Q.sought key)) }
-        ensures { Some result.now ≡ value_at Q.order self.now.pairs (Q.sought key) }
+        ensures value { Some result.now ≡ value_at Q.order self.now.pairs (Q.sought key) }
+        ensures member { IsAmong (values_of self.now.pairs) result.now }
     {
         self.get(key).unwrap()
     }

@@ -1,5 +1,5 @@
 //! Calls for the keys within two bounds. None takes memory, and each makes O(log n) comparisons for each bound.
-ghost use Rattle.std.specs.Prelude.{◌≡◌, ◌+◌, ◌*◌, ◌&&◌, Some, length, not};
+ghost use Rattle.std.specs.Prelude.{◌≡◌, ◌+◌, ◌*◌, ◌&&◌, All, Some, length, not};
 ghost use Rattle.std.specs.List.{AllByRecursion};
 ghost use Rattle.std.specs.Range.Bound.{bound_map};
 ghost use Rattle.litemap_store.specs.Counts.{RisesByAtMost, digits};
@@ -107,7 +107,11 @@ impl<K: Ord, V, S: StoreSlice<K, V>> LiteMap<K, V, S> {
         // What lookups find in it.
         ensures stays { KeepsPart (λ p. not (is_before Q.order (bound_map Q.sought from) p.0)
             && is_up_to Q.order (bound_map Q.sought to) p.0) self.now.pairs result.pairs }
+        // Each pair of it is what its key finds in the whole map.
+        ensures found { All (λ p. at K.cmp self.now.pairs p.0 ≡ Some p) result.pairs }
     {
+        // For the proof.
+        self.keys_ascend();
         self.get_indexed_range(self.index_range(from, to)).unwrap()
     }
 
@@ -123,6 +127,7 @@ impl<K: Ord, V, S: StoreSlice<K, V>> LiteMap<K, V, S> {
             ≡ within K.cmp self.now.pairs (R.start_bound range) (R.end_bound range) }
         ensures stays { R.has_bounds range → KeepsPart (λ p. not (is_before K.cmp (R.start_bound range) p.0)
             && is_up_to K.cmp (R.end_bound range) p.0) self.now.pairs result.pairs }
+        ensures found { All (λ p. at K.cmp self.now.pairs p.0 ≡ Some p) result.pairs }
     {
         self.range(range.start_bound(), range.end_bound())
     }
@@ -135,8 +140,9 @@ impl<K: Ord, V, S: StoreSlice<K, V>> LiteMap<K, V, S> {
     /// Ok(names.range_by("a".."f").len() == 1 && names.range_by("b"..).len() == 1)
     /// ```
     pub fn range_by<Q: Query<K>, R: RangeBounds<Q>>(&self, range: R) -> SliceMap<'_, K, V>
-        ensures { R.has_bounds range → result.pairs ≡ within Q.order self.now.pairs
+        ensures pairs { R.has_bounds range → result.pairs ≡ within Q.order self.now.pairs
             (bound_map Q.sought (R.start_bound range)) (bound_map Q.sought (R.end_bound range)) }
+        ensures found { All (λ p. at K.cmp self.now.pairs p.0 ≡ Some p) result.pairs }
     {
         self.range(
             range.start_bound().map(|q| *q),

@@ -3,6 +3,7 @@ ghost use Rattle.std.specs.Prelude.{◌≡◌, ◌≢◌, ◌⊎◌, ◌+◌, �
 ghost use Rattle.std.specs.Prelude.{OnOk};
 ghost use Rattle.std.specs.Prelude.{Bool, drop, filter, IfSome, length, not, remove, slice_get, take};
 ghost use Rattle.std.specs.Ordering.{is_lt};
+ghost use Rattle.std.specs.declared.cmp.Ordering.TheVariants.{Equal};
 ghost use Rattle.std.specs.declared.ops.Bound.TheVariants.{Included, Unbounded};
 ghost use Rattle.litemap_store.specs.Counts.{RisesByAtMost, digits};
 ghost use Rattle.litemap_store.specs.Pairs.{Rising, at, below};
@@ -30,6 +31,7 @@ impl<K: Ord, V, S: StoreMut<K, V>> LiteMap<K, V, S> {
     /// which may differ from the one that is looked up. It compares and moves as `remove` does.
     pub fn remove_entry<Q: Query<K>>(&mut self, key: Q) -> Option<(K, V)>
         ensures pair { result ≡ at Q.order self.old.pairs (Q.sought key) }
+        ensures same_key { IfSome result (λ p. Q.order p.0 (Q.sought key) ≡ Equal) }
         ensures removed { Removes Q.order (Q.sought key) S.keeps_memory self.old self.new result }
         ensures updates { Finds Q.order (Q.sought key) None self.old.pairs self.new.pairs }
         ensures others { KeysStay K.cmp Q.order (Q.sought key) self.old.pairs self.new.pairs }
@@ -71,6 +73,7 @@ impl<K: Ord, V, S: StoreMut<K, V>> LiteMap<K, V, S> {
 
     pub(super) fn take_out<Q: Query<K>>(&mut self, key: Q, count: &mut Count) -> Option<(K, V)>
         ensures pair { result ≡ at Q.order self.old.pairs (Q.sought key) }
+        ensures same_key { IfSome result (λ p. Q.order p.0 (Q.sought key) ≡ Equal) }
         ensures removed { Removes Q.order (Q.sought key) S.keeps_memory self.old self.new result }
         ensures updates { Finds Q.order (Q.sought key) None self.old.pairs self.new.pairs }
         ensures others { KeysStay K.cmp Q.order (Q.sought key) self.old.pairs self.new.pairs }

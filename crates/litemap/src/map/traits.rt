@@ -3,6 +3,8 @@
 ghost use Rattle.std.specs.Prelude.{◌≡◌, ◌++◌, [], IsSome, OnErr, Some};
 ghost use Rattle.std.specs.Borrow.{sem};
 ghost use Rattle.std.specs.Iterator.{ExtendsWithItems, IsFiniteIterable};
+ghost use Rattle.std.specs.List.{IsAmong};
+ghost use Rattle.std.specs.Map.{values_of};
 ghost use Rattle.litemap_store.specs.Bulk.{GivesSome};
 ghost use Rattle.litemap_store.specs.Clones.{PairsBecame};
 ghost use Rattle.litemap_store.specs.Last.{Last};
@@ -86,6 +88,7 @@ impl<K: Ord, V, S: StoreMut<K, V>, Q: Query<K>> IndexMut<Q> for LiteMap<K, V, S>
         ensures* writes_back { sem 𝓛
             (LendsKey K.row V.row S.row K.Ord S.pairs S.room self.entry Q.order (Q.sought key) result) }
         ensures value { Some result.now ≡ value_at Q.order self.old.pairs (Q.sought key) }
+        ensures member { IsAmong (values_of self.old.pairs) result.now }
         ensures updates { (v : V) → Finds Q.order (Q.sought key) (Some v) self.old.pairs
             (write Q.order self.old.pairs (Q.sought key) v) }
         ensures others { (v : V) → KeysStay K.cmp Q.order (Q.sought key) self.old.pairs

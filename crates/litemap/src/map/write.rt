@@ -6,6 +6,7 @@
 ghost use Rattle.std.specs.Prelude.{◌≡◌, ◌+◌, ◌<◌, Bool, List, filter, length, map, ℕ, Ok, Err, OnOk, Some, IfNone, IfSome};
 ghost use Rattle.std.specs.Prelude.{IsSome};
 ghost use Rattle.std.specs.Borrow.{sem};
+ghost use Rattle.std.specs.List.{IsAmong};
 ghost use Rattle.std.specs.Map.{keys_of, values_of};
 ghost use Rattle.std.specs.Option.{option_copied_mut};
 ghost use Rattle.litemap_store.specs.IterMut.{iter_mut_loan, iter_mut_left};
@@ -44,6 +45,7 @@ impl<K: Ord, V, S: StoreMut<K, V>> LiteMap<K, V, S> {
         ensures* writes_back { sem 𝓛
             (LendsValue K.row V.row S.row K.Ord S.pairs S.room self.entry Q.order (Q.sought key) result) }
         ensures value { option_copied_mut result ≡ value_at Q.order self.old.pairs (Q.sought key) }
+        ensures member { IfSome result (λ v. IsAmong (values_of self.old.pairs) v.now) }
         // What lookups find after a write.
         ensures updates { (v : V) → IsSome (at Q.order self.old.pairs (Q.sought key)) → Finds Q.order (Q.sought key)
             (Some v) self.old.pairs (write Q.order self.old.pairs (Q.sought key) v) }
@@ -85,6 +87,7 @@ impl<K: Ord, V, S: StoreMut<K, V>> LiteMap<K, V, S> {
         ensures* writes_back { sem 𝓛
             (LendsKey K.row V.row S.row K.Ord S.pairs S.room self.entry Q.order (Q.sought key) result) }
         ensures value { Some result.now ≡ value_at Q.order self.old.pairs (Q.sought key) }
+        ensures member { IsAmong (values_of self.old.pairs) result.now }
         ensures updates { (v : V) → Finds Q.order (Q.sought key) (Some v) self.old.pairs
             (write Q.order self.old.pairs (Q.sought key) v) }
         ensures others { (v : V) → KeysStay K.cmp Q.order (Q.sought key) self.old.pairs
