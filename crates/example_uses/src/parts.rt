@@ -164,9 +164,10 @@ pub fn first_between<K: Ord + Copy>(map: &VecMap<K, u32>, from: K, to: K) -> Opt
     Some((*key, *count))
 }
 
-/// A key with this count, the first one in order.
+/// A key with this count, or `None` if there is none.
 pub fn key_with<K: Ord + Copy>(map: &VecMap<K, u32>, count: u32) -> Option<K>
-    ensures { IfSome result (λ key. value_at K.cmp map.now.pairs key ≡ Some count) }
+    ensures found { IfSome result (λ key. value_at K.cmp map.now.pairs key ≡ Some count) }
+    ensures none { IsNone result → (key : K) → value_at K.cmp map.now.pairs key ≢ Some count }
 {
     map.iter().find(|p| *p.1 == count).map(|p| *p.0)
 }

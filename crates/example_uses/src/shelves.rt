@@ -1,7 +1,7 @@
 //! Keys of a type of a caller's own, in the order that it derives. All other shelves are those for which `cmp` doesn't return
 //! `Equal`: said by `is_eq`, it is proved after two changes, too.
 ghost use Rattle.std.specs.Prelude.{◌≡◌, ◌≢◌, ◌+◌, None, Some, IfOk, IfSome, IsNone, IsSome, IsTrue, OnErr, OnOk, false, is_some};
-ghost use Rattle.std.specs.Prelude.{◌≤◌, All, sum, unwrap_or};
+ghost use Rattle.std.specs.Prelude.{◌≤◌, All, option_map, sum, unwrap_or};
 ghost use Rattle.std.specs.Map.{values_of};
 ghost use Rattle.std.specs.Ordering.{is_eq};
 ghost use Rattle.std.specs.declared.cmp.Ordering.TheVariants.{Equal, Less};
@@ -98,7 +98,8 @@ pub fn shelf_at(stock: &Stock, index: usize) -> Option<(Shelf, u32)>
 
 /// How many are on a shelf: no more than 100, if no shelf has more.
 pub fn count_on(stock: &Stock, shelf: &Shelf) -> Option<u32>
-    ensures { All (λ n. n ≤ 100) (values_of stock.now.pairs) → IfSome result (λ n. n ≤ 100) }
+    ensures value { result ≡ value_at ⟦<Shelf as Ord>⟧.cmp stock.now.pairs shelf.now }
+    ensures few { All (λ n. n ≤ 100) (values_of stock.now.pairs) → IfSome result (λ n. n ≤ 100) }
 {
     stock.get(shelf).copied()
 }
@@ -106,6 +107,7 @@ pub fn count_on(stock: &Stock, shelf: &Shelf) -> Option<u32>
 /// Takes a shelf out, with what was there. It is the shelf that was meant.
 pub fn take(stock: &mut Stock, shelf: &Shelf) -> Option<(Shelf, u32)>
     ensures meant { IfSome result (λ p. ⟦<Shelf as Ord>⟧.cmp p.0 shelf.now ≡ Equal) }
+    ensures value { option_map (λ p. p.1) result ≡ value_at ⟦<Shelf as Ord>⟧.cmp stock.old.pairs shelf.now }
     ensures gone { value_at ⟦<Shelf as Ord>⟧.cmp stock.new.pairs shelf.now ≡ None }
 {
     stock.remove_entry(shelf)

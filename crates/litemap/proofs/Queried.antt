@@ -169,7 +169,7 @@ module _ {K Q V : Type 0} (order : K → Q → Ordering) (q : Q) where
   member_lent L None e = tt
   member_lent L (Some v) e = member L (Some v.now) e
 
--- the same of a pair of references
+-- what is found at an index, at an end or by a filter, also as a pair of references
 module _ {K V : Type 0} {cmp : K → K → Ordering} (o : IsTotalOrder cmp) (L : List (K × V)) (r : Rising cmp L) where
   pub found_there : (i : ℕ) (p : Option (Bor K × Bor V)) → option_map deref_pair p ≡ slice_get L i → IfSome p (λ q. at cmp L q.0.now ≡ Some (deref_pair q))
   found_there i None e = tt

@@ -110,7 +110,7 @@ impl<K: Ord, V, S: StoreSlice<K, V>> LiteMap<K, V, S> {
         // Each pair of it is what its key finds in the whole map.
         ensures found { All (λ p. at K.cmp self.now.pairs p.0 ≡ Some p) result.pairs }
     {
-        // For the proof.
+        // For the proof: the keys ascend.
         self.keys_ascend();
         self.get_indexed_range(self.index_range(from, to)).unwrap()
     }
