@@ -2,13 +2,13 @@
 //! `Equal`: said by `is_eq`, it is proved after two changes, too.
 ghost use Rattle.std.specs.Prelude.{◌≡◌, ◌≢◌, ◌+◌, None, Some, IfOk, IfSome, IsNone, IsSome, IsTrue, OnErr, OnOk, false, is_some};
 ghost use Rattle.std.specs.Prelude.{◌≤◌, All, option_map, sum, unwrap_or};
-ghost use Rattle.std.specs.Map.{values_of};
+ghost use Rattle.std.specs.Map.{keys_of, values_of};
 ghost use Rattle.std.specs.Ordering.{is_eq};
-ghost use Rattle.std.specs.declared.cmp.Ordering.TheVariants.{Equal, Less};
+ghost use Rattle.std.specs.declared.cmp.Ordering.TheVariants.{Equal, Greater, Less};
 ghost use Rattle.litemap_store.specs.Pairs.{at, value_at};
 
 use litemap::VecMap;
-use std::alloc::AllocError;
+use std::alloc::{AllocError, Global};
 
 /// A place in a store room, with an order of its own.
 #[derive(Clone, Copy, PartialEq, Eq, PartialOrd, Ord)]
@@ -85,6 +85,44 @@ pub fn next_from(stock: &Stock, shelf: &Shelf) -> Option<(Shelf, u32)>
 {
     let (found, count) = stock.ceiling(shelf)?;
     Some((*found, *count))
+}
+
+/// The first shelf from one on and before another, and how many are there. None of those between comes before it.
+pub fn first_between(stock: &Stock, from: Shelf, to: Shelf) -> Option<(Shelf, u32)>
+    ensures found { IfSome result (λ p. value_at ⟦<Shelf as Ord>⟧.cmp stock.now.pairs p.0 ≡ Some p.1) }
+    ensures from { IfSome result (λ p. ⟦<Shelf as Ord>⟧.cmp p.0 from ≢ Less) }
+    ensures before { IfSome result (λ p. ⟦<Shelf as Ord>⟧.cmp p.0 to ≡ Less) }
+    ensures none { IsNone result → (other : _) → ⟦<Shelf as Ord>⟧.cmp other from ≢ Less
+        → ⟦<Shelf as Ord>⟧.cmp other to ≡ Less → value_at ⟦<Shelf as Ord>⟧.cmp stock.now.pairs other ≡ None }
+    ensures first { IfSome result (λ p. (other : _) → ⟦<Shelf as Ord>⟧.cmp other from ≢ Less
+        → ⟦<Shelf as Ord>⟧.cmp other to ≡ Less → IsSome (value_at ⟦<Shelf as Ord>⟧.cmp stock.now.pairs other)
+        → ⟦<Shelf as Ord>⟧.cmp p.0 other ≢ Greater) }
+{
+    let part = stock.range_in(from..to);
+    let (found, count) = part.first()?;
+    Some((*found, *count))
+}
+
+/// Puts more on a shelf, from 0 if it isn't there. All others stay.
+pub fn put_more(stock: &mut Stock, shelf: Shelf, more: u32) -> Result<(), AllocError>
+    requires { unwrap_or (value_at ⟦<Shelf as Ord>⟧.cmp stock.old.pairs shelf) 0 + more ≤ u32.MAX }
+    ensures there { OnOk result (value_at ⟦<Shelf as Ord>⟧.cmp stock.new.pairs shelf
+        ≡ Some (unwrap_or (value_at ⟦<Shelf as Ord>⟧.cmp stock.old.pairs shelf) 0 + more)) }
+    ensures others { OnOk result ((other : _) → is_eq (⟦<Shelf as Ord>⟧.cmp other shelf) ≡ false
+        → value_at ⟦<Shelf as Ord>⟧.cmp stock.new.pairs other ≡ value_at ⟦<Shelf as Ord>⟧.cmp stock.old.pairs other) }
+{
+    stock.keys_ascend();
+    *stock.entry(shelf).or_insert(0)? += more;
+    Ok(())
+}
+
+/// Splits off the shelves from one on. Those before it stay.
+pub fn split_from(stock: &mut Stock, alloc: Global, shelf: &Shelf) -> Result<Stock, AllocError>
+    ensures before { OnOk result (All (λ other. ⟦<Shelf as Ord>⟧.cmp other shelf.now ≡ Less) (keys_of stock.new.pairs)) }
+    ensures from { IfOk result
+        (λ later. All (λ other. ⟦<Shelf as Ord>⟧.cmp other shelf.now ≢ Less) (keys_of later.pairs)) }
+{
+    stock.split_off(alloc, shelf)
 }
 
 /// The shelf at an index, and how many are there, which a lookup finds.

@@ -131,7 +131,28 @@ fn show_shelves(rt: &impl Print, alloc: Global) -> io::Result<()> {
     ));
     let four = parts::key_with(&stock, 4).map(|shelf| shelf.number);
     let took = shelves::take(&mut stock, &high).map(|(shelf, count)| (shelf.number, count));
-    println!(rt; "on it {on:?}, from 1 on {from:?}, four on {four:?}, taken {took:?}")
+    println!(rt; "on it {on:?}, from 1 on {from:?}, four on {four:?}, taken {took:?}")?;
+    show_parts_of_stock(rt, alloc)
+}
+
+// A stock to which more is put, a part of it, and what is split off.
+fn show_parts_of_stock(rt: &impl Print, alloc: Global) -> io::Result<()> {
+    let mut stock = Stock::new_vec(alloc);
+    let (low, high) = (shelf(1), shelf(2));
+    shelves::set(&mut stock, low, 1)?;
+    if stock.get(&high).is_none() {
+        shelves::put_more(&mut stock, high, 5)?;
+    }
+    let between = shelves::first_between(&stock, high, shelf(9)).map(|(shelf, count)| (
+        shelf.number,
+        count,
+    ));
+    let later = shelves::split_from(&mut stock, alloc, &high)?;
+    println!(rt;
+        "first between {between:?}, split off {} of {} shelves",
+        later.len(),
+        stock.len().wrapping_add(later.len())
+    )
 }
 
 fn shelf(number: u8) -> Shelf

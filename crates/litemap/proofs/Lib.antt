@@ -1,5 +1,6 @@
 -- Lemmas of the proofs.
 pub mod All
+pub mod Bounded
 pub mod Collecting
 pub mod Combining
 pub mod Common

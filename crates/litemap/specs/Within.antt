@@ -1,13 +1,15 @@
 -- The pairs whose keys are within two bounds, and those before the first. `order k q` is how the key k compares with the query
 -- of a bound.
-use Rattle.std.specs.Prelude.{◌≡◌, ℕ, zero, suc, ◌+◌, ◌≤◌, List, [], ◌∷◌, length, Some, Bool, true, false, not, ◌&&◌, filter}
+use Rattle.std.specs.Prelude.{◌≡◌, ℕ, zero, suc, ◌+◌, ◌-◌, ◌≤◌, List, [], ◌∷◌, length, slice_get, Some, None, IfSome, All, Bool, true, false}
+use Rattle.std.specs.Prelude.{not, ◌&&◌, filter, ⊤}
 use Rattle.std.specs.List.{AllByRecursion}
-use Rattle.std.specs.Ordering.{is_le, is_lt}
+use Rattle.std.specs.Ordering.{is_gt, is_le, is_lt}
 use Rattle.std.specs.declared.cmp.Ordering.{Ordering}
+use Rattle.std.specs.declared.cmp.Ordering.TheVariants.{Less, Greater}
 use Rattle.std.specs.declared.ops.Bound.{Bound}
 use Rattle.std.specs.declared.ops.Bound.TheVariants.{Included, Excluded, Unbounded}
 use Rattle.std.specs.declared.ops.Range.{Range}
-use Rattle.litemap_store.specs.Pairs.{sub}
+use Rattle.litemap_store.specs.Pairs.{sub, value_at}
 
 module _ {K Q : Type 0} (order : K → Q → Ordering) where
   -- the key is before a lower bound
@@ -21,6 +23,22 @@ module _ {K Q : Type 0} (order : K → Q → Ordering) where
   is_up_to (Included q) k = is_le (order k q)
   is_up_to (Excluded q) k = is_lt (order k q)
   is_up_to Unbounded k = true
+
+  -- the same as facts: the key is not before a lower bound
+  abbrev pub IsFrom : Bound Q → K → Type 0
+  IsFrom (Included q) k = is_lt (order k q) ≡ false
+  IsFrom (Excluded q) k = order k q ≡ Greater
+  IsFrom Unbounded k = ⊤
+
+  -- the key is not past an upper bound
+  abbrev pub IsUpTo : Bound Q → K → Type 0
+  IsUpTo (Included q) k = is_gt (order k q) ≡ false
+  IsUpTo (Excluded q) k = order k q ≡ Less
+  IsUpTo Unbounded k = ⊤
+
+  -- the key is within both bounds
+  abbrev pub IsBetween : Bound Q → Bound Q → K → Type 0
+  IsBetween from to k = IsFrom from k × IsUpTo to k
 
 module _ {K Q V : Type 0} (order : K → Q → Ordering) where
   -- the pairs whose keys are before a lower bound, in order
@@ -37,6 +55,17 @@ module _ {K Q V : Type 0} (order : K → Q → Ordering) where
     pub start : range.start ≡ length (before L from)
     pub len : range.end ≡ range.start + length (within L from to)
     pub inside : range.end ≤ length L
+
+-- the keys of M are within two bounds, the first and the last one too
+pub record AreBetween {K Q V : Type 0} (order : K → Q → Ordering) (from to : Bound Q) (M : List (K × V)) : Type 0 where
+  pub each : All (λ p. IsBetween order from to p.0) M
+  pub first : IfSome (slice_get M 0) (λ p. IsBetween order from to p.0)
+  pub last : IfSome (slice_get M (length M - 1)) (λ p. IsBetween order from to p.0)
+
+-- a key within two bounds finds in M what it finds in L, and each other one nothing
+pub record FindsBetween {K Q V : Type 0} (cmp : K → K → Ordering) (order : K → Q → Ordering) (from to : Bound Q) (L M : List (K × V)) : Type 0 where
+  pub stays : (k : K) → IsBetween order from to k → value_at cmp M k ≡ value_at cmp L k
+  pub gone : (k : K) → (IsBetween order from to k → ⊥) → value_at cmp M k ≡ None
 
 -- the test is true of the first n elements, and of no other
 abbrev pub IsCut : {X : Type 0} → (X → Bool) → List X → ℕ → Type 0

@@ -5,7 +5,7 @@ ghost use Rattle.std.specs.Range.Bound.{bound_map};
 ghost use Rattle.litemap_store.specs.Counts.{RisesByAtMost, digits};
 ghost use Rattle.litemap_store.specs.Pairs.{at};
 ghost use Rattle.litemap.specs.Updates.{KeepsPart};
-ghost use Rattle.litemap.specs.Within.{IsIndexRange, IsCut, before, is_before, is_up_to, within};
+ghost use Rattle.litemap.specs.Within.{AreBetween, FindsBetween, IsBetween, IsIndexRange, IsCut, before, is_before, is_up_to, within};
 
 use super::iter::RangeIter;
 use crate::{LiteMap, SliceMap};
@@ -59,6 +59,7 @@ impl<K: Ord, V, S: Store<K, V>> LiteMap<K, V, S> {
     pub fn iter_range<Q: Query<K>>(&self, from: Bound<Q>, to: Bound<Q>) -> RangeIter<'_, K, V, S>
         ensures pairs { result ≡ within Q.order self.now.pairs
             (bound_map Q.sought from) (bound_map Q.sought to) }
+        ensures inside { AllByRecursion (λ p. IsBetween Q.order (bound_map Q.sought from) (bound_map Q.sought to) p.0) result }
         // Each of them is what its key finds in the map.
         ensures found { AllByRecursion (λ p. at K.cmp self.now.pairs p.0 ≡ Some p) result }
     {
@@ -127,6 +128,11 @@ impl<K: Ord, V, S: StoreSlice<K, V>> LiteMap<K, V, S> {
             ≡ within K.cmp self.now.pairs (R.start_bound range) (R.end_bound range) }
         ensures stays { R.has_bounds range → KeepsPart (λ p. not (is_before K.cmp (R.start_bound range) p.0)
             && is_up_to K.cmp (R.end_bound range) p.0) self.now.pairs result.pairs }
+        // The same by keys, whose order need not be known to the caller's proof.
+        ensures inside { R.has_bounds range
+            → AreBetween K.cmp (R.start_bound range) (R.end_bound range) result.pairs }
+        ensures keys { R.has_bounds range → FindsBetween K.cmp K.cmp (R.start_bound range) (R.end_bound range)
+            self.now.pairs result.pairs }
         ensures found { All (λ p. at K.cmp self.now.pairs p.0 ≡ Some p) result.pairs }
     {
         self.range(range.start_bound(), range.end_bound())
@@ -142,6 +148,10 @@ impl<K: Ord, V, S: StoreSlice<K, V>> LiteMap<K, V, S> {
     pub fn range_by<Q: Query<K>, R: RangeBounds<Q>>(&self, range: R) -> SliceMap<'_, K, V>
         ensures pairs { R.has_bounds range → result.pairs ≡ within Q.order self.now.pairs
             (bound_map Q.sought (R.start_bound range)) (bound_map Q.sought (R.end_bound range)) }
+        ensures inside { R.has_bounds range → AreBetween Q.order (bound_map Q.sought (R.start_bound range))
+            (bound_map Q.sought (R.end_bound range)) result.pairs }
+        ensures keys { R.has_bounds range → FindsBetween K.cmp Q.order (bound_map Q.sought (R.start_bound range))
+            (bound_map Q.sought (R.end_bound range)) self.now.pairs result.pairs }
         ensures found { All (λ p. at K.cmp self.now.pairs p.0 ≡ Some p) result.pairs }
     {
         self.range(

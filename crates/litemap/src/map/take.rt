@@ -1,9 +1,10 @@
 //! Calls that remove pairs and return them, keys with their values. A call for one pair takes no memory.
 ghost use Rattle.std.specs.Prelude.{◌≡◌, ◌≢◌, ◌⊎◌, ◌+◌, ◌-◌, ◌++◌, ◌<◌, ◌≤◌, [], IsNone, IsSome, None, Some, IfOk, IsOk, OnErr};
 ghost use Rattle.std.specs.Prelude.{OnOk};
-ghost use Rattle.std.specs.Prelude.{Bool, drop, filter, IfSome, length, not, remove, slice_get, take};
+ghost use Rattle.std.specs.Prelude.{All, Bool, false, drop, filter, IfSome, length, not, remove, slice_get, take};
+ghost use Rattle.std.specs.Map.{keys_of};
 ghost use Rattle.std.specs.Ordering.{is_lt};
-ghost use Rattle.std.specs.declared.cmp.Ordering.TheVariants.{Equal};
+ghost use Rattle.std.specs.declared.cmp.Ordering.TheVariants.{Equal, Less};
 ghost use Rattle.std.specs.declared.ops.Bound.TheVariants.{Included, Unbounded};
 ghost use Rattle.litemap_store.specs.Counts.{RisesByAtMost, digits};
 ghost use Rattle.litemap_store.specs.Pairs.{Rising, at, below};
@@ -116,6 +117,10 @@ impl<K: Ord + Drop, V: Drop, S: StoreMut<K, V> + Drop> LiteMap<K, V, S> {
         ensures below { OnOk result (self.new.pairs ≡ below Q.order self.old.pairs (Q.sought key)) }
         ensures from { IfOk result
             (λ m. m.pairs ≡ within Q.order self.old.pairs (Included (Q.sought key)) Unbounded) }
+        ensures all_below { OnOk result
+            (All (λ k. Q.order k (Q.sought key) ≡ Less) (keys_of self.new.pairs)) }
+        ensures all_from { IfOk result
+            (λ m. All (λ k. is_lt (Q.order k (Q.sought key)) ≡ false) (keys_of m.pairs)) }
         // What lookups find in the two parts.
         ensures stays { OnOk result
             (KeepsPart (λ p. is_lt (Q.order p.0 (Q.sought key))) self.old.pairs self.new.pairs) }

@@ -1,11 +1,15 @@
-use Rattle.litemap.proofs.Common.{◌≡◌, ap, rules}
-use Rattle.std.specs.Range.Bound.{bound_map}
-use Rattle.litemap.specs.Within.{within}
+use Rattle.litemap.proofs.Common.{ap, rules}
+use Rattle.litemap.proofs.Bounded.{each_between}
 use Rattle.litemap.proofs.Queried.{kept_found}
 use Rattle.litemap.proofs.map.LiteMap.iter_range.Goals as goal
 
+pub returns-clause-pairs : goal.returns-clause-pairs
+returns-clause-pairs g c = search rules
+
+pub returns-clause-inside : goal.returns-clause-inside
+returns-clause-inside g c = each_between _ _ _ c.args.self.now.pairs c.between.result (returns-clause-pairs g c)
+
 pub returns-clause-found : goal.returns-clause-found
 returns-clause-found g c =
-    let part : c.between.result ≡ within g.Q.Query.order c.args.self.now.pairs (bound_map g.Q.Query.sought c.args.from) (bound_map g.Q.Query.sought c.args.to) =
-    search rules in
-    kept_found g.met.K.Ord.total c.args.self.now.pairs (rw (ap (λ m. m.pairs) c.self.view_is) at c.self.invariant) _ c.between.result part
+    kept_found g.met.K.Ord.total c.args.self.now.pairs (rw (ap (λ m. m.pairs) c.self.view_is) at c.self.invariant) _ c.between.result
+    (returns-clause-pairs g c)

@@ -1,8 +1,10 @@
-use Rattle.litemap.proofs.Common.{arith, take, inl, inr, length, refl, sym, ap, ◌∙◌, true≢false, ⊎_elim, Rising-filter}
+use Rattle.litemap.proofs.Common.{arith, each-weaker, take, inl, inr, length, refl, sym, ap, ◌∙◌, true≢false, ⊎_elim, Rising-filter}
+use Rattle.litemap.proofs.Bounded.{all_keys, each_between}
 use Rattle.litemap.proofs.Cuts.{drop-cut, first_cut, last_cut, take-cut, within-cut}
 use Rattle.litemap_store.proofs.Lists.Parts.{Rising-drop}
 use Rattle.std.proofs.lemmas.List.{take-append-drop, nil_from_length}
 use Rattle.litemap.proofs.Queried.{and_true, keeps_alike, keeps_part}
+use Rattle.std.specs.declared.ops.Bound.TheVariants.{Excluded, Included, Unbounded}
 use Rattle.litemap.proofs.map.LiteMap.split_off.Goals as goal
 
 pub split_store-requires : goal.split_store-requires
@@ -59,3 +61,15 @@ returns-clause-stays g c = keeps_part _ c.args.self.now.pairs _ (returns-clause-
 
 pub returns-clause-goes : goal.returns-clause-goes
 returns-clause-goes g c = keeps_alike _ _ c.args.self.now.pairs _ (λ p. and_true _) (returns-clause-from g c)
+
+pub returns-clause-all_below : goal.returns-clause-all_below
+returns-clause-all_below g c =
+    let q = g.Q.Query.sought c.args.key in
+    let each = each_between g.Q.Query.order Unbounded (Excluded q) c.args.self.now.pairs _ (returns-clause-below g c) in
+    all_keys _ _ (each-weaker (λ p b. b.1) _ each)
+
+pub returns-clause-all_from : goal.returns-clause-all_from
+returns-clause-all_from g c =
+    let q = g.Q.Query.sought c.args.key in
+    let each = each_between g.Q.Query.order (Included q) Unbounded c.args.self.now.pairs _ (returns-clause-from g c) in
+    all_keys _ _ (each-weaker (λ p b. b.0) _ each)
