@@ -31,6 +31,14 @@ pub fn lower_counts(counts: &mut Counts)
     counts.update(|_, count| *count = count.saturating_sub(1));
 }
 
+/// Lowers each count by one, down to 0, at keys of any type.
+pub fn lower_all<K: Ord>(map: &mut VecMap<K, u32>)
+    ensures { (key : K) → value_at K.cmp map.new.pairs key
+        ≡ option_map (λ count. count - 1) (value_at K.cmp map.old.pairs key) }
+{
+    map.update(|_, count| *count = count.saturating_sub(1));
+}
+
 /// Drops the names whose count is 0. All others stay.
 pub fn drop_zeros(counts: &mut Counts)
     ensures dropped { (name : _) → value_at by_string counts.old.pairs name ≡ Some 0
@@ -87,6 +95,21 @@ pub fn split_at_name(counts: &mut Counts, alloc: Global, name: &str) -> Result<C
         → value_at by_string counts.new.pairs other ≡ None) }
 {
     counts.split_off(alloc, name)
+}
+
+/// Splits off the pairs from a key on, of any type. The smaller ones stay.
+pub fn split_at_key<K: Ord + Drop>(
+    map: &mut VecMap<K, u32>,
+    alloc: Global,
+    key: &K,
+) -> Result<VecMap<K, u32>, AllocError>
+    ensures stays { OnOk result ((other : K) → K.cmp other key.now ≡ Less
+        → value_at K.cmp map.new.pairs other ≡ value_at K.cmp map.old.pairs other) }
+    ensures gone { OnOk result ((other : K) → K.cmp other key.now ≢ Less
+        → value_at K.cmp map.new.pairs other ≡ None) }
+{
+    map.keys_ascend();
+    map.split_off(alloc, key)
 }
 
 /// The count of a name, looked up among those from one to before another.

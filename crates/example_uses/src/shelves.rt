@@ -121,6 +121,12 @@ pub fn split_from(stock: &mut Stock, alloc: Global, shelf: &Shelf) -> Result<Sto
     ensures before { OnOk result (All (λ other. ⟦<Shelf as Ord>⟧.cmp other shelf.now ≡ Less) (keys_of stock.new.pairs)) }
     ensures from { IfOk result
         (λ later. All (λ other. ⟦<Shelf as Ord>⟧.cmp other shelf.now ≢ Less) (keys_of later.pairs)) }
+    ensures stays { OnOk result ((other : _) → ⟦<Shelf as Ord>⟧.cmp other shelf.now ≡ Less
+        → value_at ⟦<Shelf as Ord>⟧.cmp stock.new.pairs other ≡ value_at ⟦<Shelf as Ord>⟧.cmp stock.old.pairs other) }
+    ensures gone { OnOk result ((other : _) → ⟦<Shelf as Ord>⟧.cmp other shelf.now ≢ Less
+        → value_at ⟦<Shelf as Ord>⟧.cmp stock.new.pairs other ≡ None) }
+    ensures there { IfOk result (λ later. (other : _) → ⟦<Shelf as Ord>⟧.cmp other shelf.now ≢ Less
+        → value_at ⟦<Shelf as Ord>⟧.cmp later.pairs other ≡ value_at ⟦<Shelf as Ord>⟧.cmp stock.old.pairs other) }
 {
     stock.split_off(alloc, shelf)
 }

@@ -1,4 +1,6 @@
-//! What the callers return, a line or a few for each.
+//! What the callers return, a line or a few for each. Nothing is promised here, so no lemmas on lookups are needed.
+#![tactic(auto)]
+
 ghost use Rattle.std.specs.Prelude.{◌≡◌};
 
 use crate::bag::Bag;
@@ -135,7 +137,7 @@ fn show_shelves(rt: &impl Print, alloc: Global) -> io::Result<()> {
     show_parts_of_stock(rt, alloc)
 }
 
-// A stock to which more is put, a part of it, and what is split off.
+// A stock to which more is put, a part of it, and what is split off once all counts are lowered.
 fn show_parts_of_stock(rt: &impl Print, alloc: Global) -> io::Result<()> {
     let mut stock = Stock::new_vec(alloc);
     let (low, high) = (shelf(1), shelf(2));
@@ -147,11 +149,15 @@ fn show_parts_of_stock(rt: &impl Print, alloc: Global) -> io::Result<()> {
         shelf.number,
         count,
     ));
-    let later = shelves::split_from(&mut stock, alloc, &high)?;
+    parts::lower_all(&mut stock);
+    let mut later = shelves::split_from(&mut stock, alloc, &high)?;
+    let none = parts::split_at_key(&mut later, alloc, &shelf(3))?;
     println!(rt;
-        "first between {between:?}, split off {} of {} shelves",
+        "first between {between:?}, lowered {:?}, split off {} of {} shelves, and then {}",
+        later.get(&high),
         later.len(),
-        stock.len().wrapping_add(later.len())
+        stock.len().wrapping_add(later.len()),
+        none.len()
     )
 }
 
@@ -512,21 +518,22 @@ fn show_config(rt: &impl Print, alloc: Global) -> io::Result<()> {
 
 fn show_collected(rt: &impl Print, alloc: Global) -> io::Result<()> {
     let map = collection::gathered(alloc, [(7, 1), (5, 2), (3, 3), (5, 4)].to_vec(alloc)?)?;
-    let mut columns: ColumnMap<u32, u32> = [(1, 9), (2, 5), (3, 0), (4, 9)]
-        .into_iter()
-        .collect(alloc)?;
+    let within = collection::number_within(&map);
+    println!(rt; "collected {map:?}, within {within}")?;
+    let mut columns = ColumnMap::from_iter(alloc, [(1, 9), (2, 5), (3, 0), (4, 9)])?;
     collection::cap(&mut columns, 7);
-    println!(rt;
-        "collected {map:?}, within {}, capped {columns:?}",
-        collection::number_within(&map)
-    )?;
+    println!(rt; "capped {columns:?}")?;
+    show_noted(rt, alloc)
+}
+
+// Days that are noted, of which the last one is noted twice.
+fn show_noted(rt: &impl Print, alloc: Global) -> io::Result<()> {
     let mut days = VecSet::new(alloc);
-    let is_new = [
-        collection::note(&mut days, 3)?,
-        collection::note(&mut days, 1)?,
-        collection::note(&mut days, 3)?,
-    ];
-    println!(rt; "new {is_new:?}, noted {days:?}")
+    for day in [3, 1, 3] {
+        let is_new = collection::note(&mut days, day)?;
+        println!(rt; "{day} is new {is_new}, noted {days:?}")?;
+    }
+    Ok(())
 }
 
 // The keywords of a locale that has one, to which a key that is there and another one are added.

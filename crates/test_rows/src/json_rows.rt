@@ -75,7 +75,7 @@ fn written_over<K: JsonKey + Drop, V: JsonItem + Drop, S: StoreBulkMut<K, V>>(
     shown::<K, V, S>(alloc, from_json(alloc, value))
 }
 
-// A map into which the words of a line are inserted, each behind its number, written as JSON.
+// A map into which the words of a line are inserted, each after its number, written as JSON.
 fn inserted(alloc: Global, line: &str) -> Output {
     let mut words = LiteMap::new_vec(alloc);
     for pair in line.split(' ') {

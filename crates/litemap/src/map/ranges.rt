@@ -128,7 +128,7 @@ impl<K: Ord, V, S: StoreSlice<K, V>> LiteMap<K, V, S> {
             ≡ within K.cmp self.now.pairs (R.start_bound range) (R.end_bound range) }
         ensures stays { R.has_bounds range → KeepsPart (λ p. not (is_before K.cmp (R.start_bound range) p.0)
             && is_up_to K.cmp (R.end_bound range) p.0) self.now.pairs result.pairs }
-        // The same by keys, whose order need not be known to the caller's proof.
+        // The same by keys: a caller's proof needs no law of their order.
         ensures inside { R.has_bounds range
             → AreBetween K.cmp (R.start_bound range) (R.end_bound range) result.pairs }
         ensures keys { R.has_bounds range → FindsBetween K.cmp K.cmp (R.start_bound range) (R.end_bound range)

@@ -35,7 +35,7 @@ impl<K: Drop, V: Drop> Choice<K, V> for NewPair {
 /// All capacity is taken first: a fresh store for all pairs, which becomes the store. Each pair then moves once. So at the peak
 /// there is capacity for each old pair twice (store, fresh store), and for each new one up to three times (fresh store, and the
 /// vector in which they were gathered, with up to twice their number), or up to five times if they are 2 to 512; a lone one takes
-/// 8 there. A vector gathers them behind its own pairs, so its block may have grown to twice both, below 512 pairs to four times.
+/// 8 there. A vector gathers them after its own pairs, so its block may have grown to twice both, below 512 pairs to four times.
 pub fn merge<K: Ord + Drop, V: Drop, S: StoreIntoIterator<K, V> + Drop>(
     alloc: Global,
     store: &mut S,
