@@ -97,7 +97,7 @@ pub fn split_at_name(counts: &mut Counts, alloc: Global, name: &str) -> Result<C
     counts.split_off(alloc, name)
 }
 
-/// Splits off the pairs from a key on, of any type. The smaller ones stay.
+/// Splits off the pairs from a key on, which may be of any type. The smaller ones stay.
 pub fn split_at_key<K: Ord + Drop>(
     map: &mut VecMap<K, u32>,
     alloc: Global,
@@ -107,6 +107,8 @@ pub fn split_at_key<K: Ord + Drop>(
         → value_at K.cmp map.new.pairs other ≡ value_at K.cmp map.old.pairs other) }
     ensures gone { OnOk result ((other : K) → K.cmp other key.now ≢ Less
         → value_at K.cmp map.new.pairs other ≡ None) }
+    ensures there { IfOk result (λ later. (other : K) → K.cmp other key.now ≢ Less
+        → value_at K.cmp later.pairs other ≡ value_at K.cmp map.old.pairs other) }
 {
     map.keys_ascend();
     map.split_off(alloc, key)

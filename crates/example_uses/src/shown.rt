@@ -1,4 +1,4 @@
-//! What the callers return, a line or a few for each. Nothing is promised here, so no lemmas on lookups are needed.
+//! What the callers return, a line or a few for each. No function here promises what lookups find, so none needs those lemmas.
 #![tactic(auto)]
 
 ghost use Rattle.std.specs.Prelude.{◌≡◌};
@@ -58,6 +58,7 @@ pub(crate) fn show(rt: &impl Print, alloc: Global) -> anyhow::Result<()> {
     show_calendar(rt, alloc)?;
     show_config(rt, alloc)?;
     show_collected(rt, alloc)?;
+    show_noted(rt, alloc)?;
     Ok(show_keywords(rt, alloc)?)
 }
 
@@ -137,7 +138,7 @@ fn show_shelves(rt: &impl Print, alloc: Global) -> io::Result<()> {
     show_parts_of_stock(rt, alloc)
 }
 
-// A stock to which more is put, a part of it, and what is split off once all counts are lowered.
+// A stock to which more is put, a part of it, and the three that it is split into once all counts are lowered.
 fn show_parts_of_stock(rt: &impl Print, alloc: Global) -> io::Result<()> {
     let mut stock = Stock::new_vec(alloc);
     let (low, high) = (shelf(1), shelf(2));
@@ -145,20 +146,20 @@ fn show_parts_of_stock(rt: &impl Print, alloc: Global) -> io::Result<()> {
     if stock.get(&high).is_none() {
         shelves::put_more(&mut stock, high, 5)?;
     }
+    shelves::set(&mut stock, shelf(4), 7)?;
     let between = shelves::first_between(&stock, high, shelf(9)).map(|(shelf, count)| (
         shelf.number,
         count,
     ));
     parts::lower_all(&mut stock);
     let mut later = shelves::split_from(&mut stock, alloc, &high)?;
-    let none = parts::split_at_key(&mut later, alloc, &shelf(3))?;
-    println!(rt;
-        "first between {between:?}, lowered {:?}, split off {} of {} shelves, and then {}",
-        later.get(&high),
-        later.len(),
-        stock.len().wrapping_add(later.len()),
-        none.len()
-    )
+    let last = parts::split_at_key(&mut later, alloc, &shelf(3))?;
+    let split = [
+        (stock.len(), stock.get(&low)),
+        (later.len(), later.get(&high)),
+        (last.len(), last.get(&shelf(4))),
+    ];
+    println!(rt; "first between {between:?}, lowered and split {split:?}")
 }
 
 fn shelf(number: u8) -> Shelf
@@ -516,17 +517,17 @@ fn show_config(rt: &impl Print, alloc: Global) -> io::Result<()> {
     Ok(())
 }
 
+// Pairs that are collected, and two columns whose values are capped.
 fn show_collected(rt: &impl Print, alloc: Global) -> io::Result<()> {
     let map = collection::gathered(alloc, [(7, 1), (5, 2), (3, 3), (5, 4)].to_vec(alloc)?)?;
     let within = collection::number_within(&map);
     println!(rt; "collected {map:?}, within {within}")?;
     let mut columns = ColumnMap::from_iter(alloc, [(1, 9), (2, 5), (3, 0), (4, 9)])?;
     collection::cap(&mut columns, 7);
-    println!(rt; "capped {columns:?}")?;
-    show_noted(rt, alloc)
+    println!(rt; "capped {columns:?}")
 }
 
-// Days that are noted, of which the last one is noted twice.
+// Days that are noted, one of them twice.
 fn show_noted(rt: &impl Print, alloc: Global) -> io::Result<()> {
     let mut days = VecSet::new(alloc);
     for day in [3, 1, 3] {
