@@ -1,4 +1,4 @@
-"""What the scripts in Python share: the crates, the text of --help, and how cases are counted."""
+"""What the scripts in Python share: the crates, what has to be installed, the text of --help, and how cases are counted."""
 import argparse
 import contextlib
 import functools
@@ -13,7 +13,7 @@ import sys
 import tempfile
 import threading
 
-TOP = pathlib.Path(__file__).resolve().parents[2]
+TOP, SCRIPT = pathlib.Path(__file__).resolve().parents[2], pathlib.Path(sys.argv[0]).name
 # What each crate uses, by the lines of crates.txt, in their order.
 LINES = re.findall(r"^(\w+)[^:\n]*:(.*)", (TOP / "crates.txt").read_text(), re.MULTILINE)
 CRATES = {name: uses.split() for name, uses in LINES}
@@ -23,6 +23,32 @@ def parser(text):
     """A parser of the words of a script that counts cases, with this text as its --help."""
     counts = "The last line is 'N passed, M failed', and the exit status is 0 only if none failed."
     return argparse.ArgumentParser(description=text, epilog=counts, formatter_class=argparse.RawDescriptionHelpFormatter)
+
+
+def tell_error(kind, error, trace):
+    """Tells an error of the system, such as that a folder can't be written to, in one line."""
+    if issubclass(kind, OSError):
+        print(f"{SCRIPT}: {error}", file=sys.stderr)
+    else:
+        sys.__excepthook__(kind, error, trace)
+
+
+sys.excepthook = tell_error
+
+
+def kits():
+    """The versions of the toolchain that README names, as `rt version` begins with them."""
+    return re.findall(r"`(rattle-kit-\w+)`", (TOP / "README.md").read_text(encoding="utf-8"))
+
+
+def need_kit(script=SCRIPT):
+    """Ends the script with one line on what to install, unless there is an `rt` of a version that README names."""
+    rt = shutil.which("rt")
+    found = rt and subprocess.run([rt, "version"], capture_output=True, text=True).stdout.partition("\n")[0] or rt or "no rt"
+    if not found.startswith(tuple(kits())):
+        wanted = f"install the Rattle toolchain {' or '.join(kits())}, with rt on your PATH, as README.md says under 'Try it'"
+        print(f"{script}: {wanted}: there is {found}", file=sys.stderr)
+        sys.exit(2)
 
 
 def used_by(*names):

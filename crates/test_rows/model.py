@@ -18,6 +18,7 @@ MANY = 200000
 OBJECT = "{" + ",".join(f'"{10**6 + number}":{number}' for number in range(MANY)) + "}"
 ARRAY = "[" + ",".join(f"[{10**6 + number},{number}]" for number in range(MANY)) + "]"
 LONG = [("table often 100000 -", "100000 found"), ("table falls 100000 -", "100000 fall")]
+LONG += [(f"table {row}", told) for row, told in KINDS["table"]["lined"]([("opened", KINDS["table"]["overlapping"](40000))])]
 LONG += [(f"{kind} {text}", OBJECT) for kind in ("json u32", "serde i64") for text in (OBJECT, ARRAY)]
 
 

@@ -89,20 +89,38 @@ def index_text(data, at):
 
 def index_pairs(data):
     number, pairs = index_number(data, 0), []
+    size = 4 + 4 * number
     for index in range(number):
-        key, middle = index_text(data, 4 + 4 * number + index_number(data, 4 + 4 * index))
-        pairs.append((key, index_text(data, middle)[0]))
+        start = 4 + 4 * number + index_number(data, 4 + 4 * index)
+        key, middle = index_text(data, start)
+        value, end = index_text(data, middle)
+        pairs.append((key, value))
+        size += end - start
         if index and key.encode() <= pairs[-2][0].encode():
             raise Fault(f"the key of the entry {index} is not above the one before it")
+        if size > len(data):
+            raise Fault(f"the entries up to the entry {index} take more bytes than there are")
     return pairs
+
+
+def numbers(*values):
+    """Numbers as an index has them."""
+    return b"".join(value.to_bytes(4, "little") for value in values)
 
 
 def indexed(pairs):
     """The index of pairs whose keys ascend."""
-    number = lambda value: value.to_bytes(4, "little")
-    parts = [b"".join(number(len(word.encode())) + word.encode() for word in pair) for pair in pairs]
-    places = [sum(map(len, parts[:index])) for index in range(len(parts))]
-    return b"".join([number(len(parts)), *map(number, places), *parts])
+    parts = [b"".join(numbers(len(word.encode())) + word.encode() for word in pair) for pair in pairs]
+    return numbers(len(parts), *(sum(map(len, parts[:index])) for index in range(len(parts)))) + b"".join(parts)
+
+
+def overlapping(count):
+    """Bytes that state so many entries, each within the key of the one before it. The keys ascend: they are a number of three
+    bytes, the later entries, and zeros."""
+    # At least the bytes of all entries before the zeros, in a number whose own bytes are ASCII.
+    size = sum((7 * count >> 7 * place & 127) << 8 * place for place in range(4))
+    entries = (numbers(size) + bytes([entry >> 14, entry >> 7 & 127, entry & 127]) for entry in range(count))
+    return numbers(count, *range(0, 7 * count, 7)) + b"".join(entries) + bytes(size + 4)
 
 
 def listed(words, pairs):
@@ -224,7 +242,7 @@ INDEXES = [
     MANY_DUE, b"\x00\x00\x00\x01" + bytes(5), b"\x01" + bytes(11), b"\x01" + bytes(15), b"\x02" + bytes(19),
     b"\x01\x00\x00\x00\xff\xff\xff\xff" + bytes(8), b"\x01" + bytes(7) + b"\xff\xff\xff\xff" + bytes(4),
     b"\x01" + bytes(7) + b"\x01\x00\x00\x00\xff" + bytes(4), b"\x01" + bytes(11) + b"\x01\x00\x00\x00\xff",
-    b"\x01\x00\x00\x00\x04\x00\x00\x00" + bytes(12),
+    b"\x01\x00\x00\x00\x04\x00\x00\x00" + bytes(12), overlapping(2), overlapping(300),
 ]
 
 

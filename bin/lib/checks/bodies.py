@@ -20,7 +20,8 @@ UNBREAKABLE = {
     "over a store that keeps its memory each pair that goes leaves its room": "drop_from.room LiteMap::retain.room LiteMap::truncate.room"
     " LiteMap::*_keys_of.room LiteMap::remove_by.room LiteMap::remove_indexed.room LiteMap::pop_*.room OccupiedEntry::remove*.room",
     "no body may lose a pair whose type isn't Drop": "insert_reserved.len remove_at.len LiteMap::reserve.pairs"
-    " LiteMap::reserve.room_not_lowered LiteMap::update.keys LiteMap::try_update.keys VacantEntry::into_key.key",
+    " LiteMap::reserve.room_not_lowered LiteMap::update.keys LiteMap::try_update.keys VacantEntry::into_key.key LiteMap::try_insert.places"
+    " LiteMap::insert_indexed.places LiteMap::remove_indexed.places LiteMap::pop_*.places",
     "each pair of a map is what its key finds, and each value one of its own": "LiteMap::first.found LiteMap::last.found"
     " LiteMap::iter_range.found LiteMap::range*.found LiteMap*.member",
     "each slice of a map ascends, and so do the keys of two sets": "LiteMap::as_slice.rising VecSet::*.ascending",

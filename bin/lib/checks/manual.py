@@ -23,7 +23,7 @@ GROUPS = {
     "Convert and borrow": "litemap: map/conversions",
     "Tables in constants": "litemap: const_family",
     "Read from a source": "litemap_read: source vec_source read calls laws",
-    "JSON": "litemap_json: write text read fault told laws item pairs written",
+    "JSON": "litemap_json: parse text read write fault told laws item next pairs written",
     "Through serde": "litemap_serde: write read pairs holder",
     "Name tables": "name_table: read write name_bytes cursor error laws",
     "Lookups in name tables": "name_index: names index indexed index_write error laws",
@@ -190,7 +190,10 @@ def words_text(it, group, above):
 def entry(it, group, above):
     """The text of a call in the page of a group."""
     paragraphs, examples = comment(it.call.comment)
-    examples = examples or block(example_of(it.call).rstrip("\n"), "rust") * bool(example_of(it.call))
+    shared = example_of(it.call).rstrip("\n")
+    # An example of several calls stands at the first of them.
+    if not examples and shared and shared not in above:
+        above[shared], examples = f"#{slug(it.title)}", block(shared, "rust")
     link = source_link(f"`{it.call.path.replace('/src/', '/')}`", it.call, page_of(group))
     contracts = block(TWINS.join(it.contracts))
     return f"## {it.title}\n\n{paragraphs}{bounds_text(it.call)}{link}:\n\n{contracts}{examples}{words_text(it, group, above)}"

@@ -114,7 +114,8 @@ def impls_of(text):
 def derived_of(text):
     """The traits that the public types of a source derive, in the same form."""
     for found in re.finditer(r"((?:^#\[derive.*\n)+)(pub (?:enum|struct) \w+)", text, re.MULTILINE):
-        traits = [it for it in re.findall(r"\b[A-Z]\w+", found[1]) if it != "Drop"]
+        # After a `;` stand the types that these traits are required of.
+        traits = [it for it in re.findall(r"\b[A-Z]\w+", re.sub(r";.*", "", found[1])) if it != "Drop"]
         if traits:
             yield f"#[derive({', '.join(traits)})] {found[2]}", traits, "", []
 

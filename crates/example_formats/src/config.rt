@@ -1,8 +1,6 @@
 //! A configuration that has maps as fields, read from JSON and TOML, laid over defaults and written back.
-ghost use Rattle.std.specs.Prelude.{◌≡◌, OnErr, OnOk};
-ghost use Rattle.std.specs.Option.{option_or};
-ghost use Rattle.litemap_store.specs.Pairs.{value_at};
-ghost use Rattle.litemap_store.specs.Queries.{by_string};
+ghost use Rattle.std.specs.Prelude.{◌≡◌};
+ghost use Rattle.litemap.specs.Words.{IsUnchanged, OnErr, OnOk, get_by_text, option_or};
 
 use litemap::{LiteMap, VecMap};
 use serde::{Deserialize, Serialize};
@@ -47,9 +45,9 @@ pub fn to_toml(alloc: Global, config: &Config) -> Result<String, toml::ser::Writ
 /// Puts a user's limits over those that are there, or leaves them as they are if memory runs out.
 pub fn overlay(limits: &mut Limits, alloc: Global, user: Limits) -> Result<(), AllocError>
     // The user's limit if there is one, else the one that was there.
-    ensures found { OnOk result ((name : _) → value_at by_string limits.new.pairs name
-        ≡ option_or (value_at by_string user.pairs name) (value_at by_string limits.old.pairs name)) }
-    ensures unchanged { OnErr result (limits.new.pairs ≡ limits.old.pairs) }
+    ensures found { OnOk result ((name : _) → get_by_text limits.new name
+        ≡ option_or (get_by_text user name) (get_by_text limits.old name)) }
+    ensures unchanged { OnErr result (IsUnchanged limits.old limits.new) }
 {
     limits.extend_from_litemap(alloc, user)?;
     Ok(())

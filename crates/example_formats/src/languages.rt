@@ -1,9 +1,8 @@
 //! Names of languages: those that a program has in itself, and those that a translator sends as a name table. A map is laid
 //! over the program's table for one lookup and takes no memory. The translator's bytes are read into a map whose strings are
 //! slices of them, and an error of such a table is told with its offset.
-ghost use Rattle.std.specs.Prelude.{◌≡◌, IfErr, IfOk};
-ghost use Rattle.litemap.specs.ByBytes.{by_bytes};
-ghost use Rattle.litemap_store.specs.Pairs.{Rising, value_at};
+ghost use Rattle.std.specs.Prelude.{◌≡◌};
+ghost use Rattle.litemap.specs.Words.{IfErr, IfOk, Rising, by_bytes, value_at};
 ghost use Rattle.name_table.specs.Faults.{IsUnread};
 ghost use Rattle.example_formats.specs.Languages.{IsNamed};
 

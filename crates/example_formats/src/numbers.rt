@@ -1,7 +1,6 @@
 //! A map whose keys are strings goes to JSON and back.
-ghost use Rattle.std.specs.Prelude.{◌≡◌, IfOk};
-ghost use Rattle.litemap_store.specs.Pairs.{value_at};
-ghost use Rattle.litemap_store.specs.Queries.{by_string};
+ghost use Rattle.std.specs.Prelude.{◌≡◌};
+ghost use Rattle.litemap.specs.Words.{IfOk, get_by_text};
 
 use litemap::VecMap;
 use litemap_json::laws::one_reading_by_string;
@@ -13,8 +12,7 @@ pub type Numbers = VecMap<String, u32>;
 
 /// The numbers, written as JSON and read back: each name has the number that it had.
 pub fn copied(alloc: Global, numbers: &Numbers) -> Result<Numbers, AllocError>
-    ensures { IfOk result (λ copy. (name : _) →
-        value_at by_string copy.pairs name ≡ value_at by_string numbers.now.pairs name) }
+    ensures { IfOk result (λ copy. (name : _) → get_by_text copy name ≡ get_by_text numbers.now name) }
 {
     let Ok(value) = to_json(alloc, numbers) else {
         return Err(AllocError);

@@ -1,12 +1,9 @@
 //! Settings that a JSON text overlays.
-ghost use Rattle.std.specs.Prelude.{◌≡◌, OnErr, OnOk, Some};
-ghost use Rattle.std.specs.Option.{option_or};
-ghost use Rattle.std.specs.String.{string_cmp};
+ghost use Rattle.std.specs.Prelude.{◌≡◌};
+ghost use Rattle.litemap.specs.Words.{IsUnchanged, OnErr, OnOk, Some, by_string, get_by_text, option_or, string_cmp, value_at};
 ghost use Rattle.serde_json.specs.Read.{read};
 ghost use Rattle.serde_json.specs.View.{view};
 ghost use Rattle.litemap_json.specs.Reading.{ReadsAs};
-ghost use Rattle.litemap_store.specs.Pairs.{value_at};
-ghost use Rattle.litemap_store.specs.Queries.{by_string};
 
 use litemap::VecMap;
 use litemap_json::{JsonFault, JsonItem, JsonKey, from_json};
@@ -32,9 +29,9 @@ pub fn overlay(settings: &mut Settings, alloc: Global, text: &str) -> Result<(),
     ensures found { OnOk result ((tree : _) × (read text.now ≡ Some tree) × (user : _)
         × ReadsAs string_cmp ⟦<String as JsonKey>⟧.key ⟦<String as JsonItem>⟧.item ⟦<String as JsonItem>⟧.item
         ⟦<String as JsonItem>⟧.json ⟦<String as JsonItem>⟧.json tree user
-        × ((name : _) → value_at by_string settings.new.pairs name
-        ≡ option_or (value_at by_string user name) (value_at by_string settings.old.pairs name))) }
-    ensures unchanged { OnErr result (settings.new.pairs ≡ settings.old.pairs) }
+        × ((name : _) → get_by_text settings.new name
+        ≡ option_or (value_at by_string user name) (get_by_text settings.old name))) }
+    ensures unchanged { OnErr result (IsUnchanged settings.old settings.new) }
 {
     match Value::from_str(alloc, text) {
         Ok(value) => overlay_value(settings, alloc, &value),
@@ -48,9 +45,9 @@ fn overlay_value(settings: &mut Settings, alloc: Global, value: &Value) -> Resul
     ensures found { OnOk result ((user : _)
         × ReadsAs string_cmp ⟦<String as JsonKey>⟧.key ⟦<String as JsonItem>⟧.item ⟦<String as JsonItem>⟧.item
         ⟦<String as JsonItem>⟧.json ⟦<String as JsonItem>⟧.json (view value.now) user
-        × ((name : _) → value_at by_string settings.new.pairs name
-        ≡ option_or (value_at by_string user name) (value_at by_string settings.old.pairs name))) }
-    ensures unchanged { OnErr result (settings.new.pairs ≡ settings.old.pairs) }
+        × ((name : _) → get_by_text settings.new name
+        ≡ option_or (value_at by_string user name) (get_by_text settings.old name))) }
+    ensures unchanged { OnErr result (IsUnchanged settings.old settings.new) }
 {
     let user: Settings = from_json(alloc, value).map_err(OverlayFault::Settings)?;
     let Ok(_) = settings.extend_from_litemap(alloc, user) else {

@@ -16,7 +16,7 @@ ghost use Rattle.litemap_store.specs.Contents.{with_value};
 
 use litemap::store::{
     Count, KeepsMemory, NoRoom, SliceIter, Store, StoreAlloc, StoreBulkMut, StoreConstEmpty,
-    StoreFromIterable, StoreFromIterator, StoreIntoIterator, StoreIterable, StoreMut,
+    StoreFromIterable, StoreFromIterator, StoreIn, StoreIntoIterator, StoreIterable, StoreMut,
 };
 use std::alloc::{AllocError, Global};
 use std::marker::Model;
@@ -37,13 +37,13 @@ impl<K, V> Model for FixedRoom<K, V> {
 
     ghost Value = { Contents K V };
 
-    ghost view = { λ s. record { pairs = s.items.items; room = s.limit - vec_len s.items } };
+    ghost view = { λ s. record { entries = s.items.items; room = s.limit - vec_len s.items } };
 
     ghost invariant = { λ s. (vec_len s.items ≤ s.limit) × (s.limit ≤ vec_capacity s.items) };
 }
 
 impl<K, V> Store<K, V> for FixedRoom<K, V> {
-    ghost pairs = { λ s. s.pairs };
+    ghost pairs = { λ s. s.entries };
 
     ghost room = { λ s. s.room };
 
@@ -60,6 +60,10 @@ impl<K, V> StoreAlloc<K, V> for FixedRoom<K, V> {
     fn lm_alloc(&self) -> Global {
         *self.items.allocator()
     }
+}
+
+impl<K, V> StoreIn<K, V> for FixedRoom<K, V> {
+    type Alloc = Global;
 }
 
 impl<K, V> StoreConstEmpty<K, V> for FixedRoom<K, V> {

@@ -11,7 +11,7 @@ ghost use Rattle.litemap_store.specs.Contents.{with_value};
 pub mod fixed_room;
 pub mod shrinking;
 
-use litemap::store::{KeepsMemory, NoRoom, Store, StoreConstEmpty, StoreMut};
+use litemap::store::{KeepsMemory, NoRoom, Store, StoreConstEmpty, StoreIn, StoreMut};
 use std::alloc::{AllocError, Global};
 use std::marker::Model;
 
@@ -28,13 +28,13 @@ impl<K, V, const LIMIT: usize> Model for Bounded<K, V, LIMIT> {
 
     ghost Value = { Contents K V };
 
-    ghost view = { λ s. record { pairs = s.items.items; room = min (vec_room s.items) (LIMIT - vec_len s.items) } };
+    ghost view = { λ s. record { entries = s.items.items; room = min (vec_room s.items) (LIMIT - vec_len s.items) } };
 
     ghost invariant = { λ s. vec_len s.items ≤ LIMIT };
 }
 
 impl<K, V, const LIMIT: usize> Store<K, V> for Bounded<K, V, LIMIT> {
-    ghost pairs = { λ s. s.pairs };
+    ghost pairs = { λ s. s.entries };
 
     ghost room = { λ s. s.room };
 
@@ -45,6 +45,10 @@ impl<K, V, const LIMIT: usize> Store<K, V> for Bounded<K, V, LIMIT> {
     fn lm_get(&self, index: usize) -> Option<(&K, &V)> {
         self.items.lm_get(index)
     }
+}
+
+impl<K, V, const LIMIT: usize> StoreIn<K, V> for Bounded<K, V, LIMIT> {
+    type Alloc = Global;
 }
 
 impl<K, V, const LIMIT: usize> StoreConstEmpty<K, V> for Bounded<K, V, LIMIT> {

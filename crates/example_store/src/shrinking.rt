@@ -7,7 +7,7 @@ ghost use Rattle.litemap_store.specs.Contents.{with_value};
 
 use litemap::store::{
     Count, NoRoom, SliceIter, Store, StoreAlloc, StoreBulkMut, StoreConstEmpty, StoreFromIterable,
-    StoreFromIterator, StoreIntoIterator, StoreIterable, StoreMut,
+    StoreFromIterator, StoreIn, StoreIntoIterator, StoreIterable, StoreMut,
 };
 use std::alloc::{AllocError, Global};
 use std::marker::Model;
@@ -25,13 +25,13 @@ impl<K, V> Model for Shrinking<K, V> {
 
     ghost Value = { Contents K V };
 
-    ghost view = { λ s. record { pairs = s.items.items; room = vec_room s.items } };
+    ghost view = { λ s. record { entries = s.items.items; room = vec_room s.items } };
 }
 
 impl<K, V> Shrinking<K, V> {
     // Gives memory back if at most half of it is in use.
     fn shrink(&mut self)
-        ensures { self.new.pairs ≡ self.old.pairs }
+        ensures { self.new.entries ≡ self.old.entries }
     {
         if self.items.len() <= self.items.capacity() / 2 {
             self.items.shrink_to_fit();
@@ -40,7 +40,7 @@ impl<K, V> Shrinking<K, V> {
 }
 
 impl<K, V> Store<K, V> for Shrinking<K, V> {
-    ghost pairs = { λ s. s.pairs };
+    ghost pairs = { λ s. s.entries };
 
     ghost room = { λ s. s.room };
 
@@ -57,6 +57,10 @@ impl<K, V> StoreAlloc<K, V> for Shrinking<K, V> {
     fn lm_alloc(&self) -> Global {
         *self.items.allocator()
     }
+}
+
+impl<K, V> StoreIn<K, V> for Shrinking<K, V> {
+    type Alloc = Global;
 }
 
 impl<K, V> StoreConstEmpty<K, V> for Shrinking<K, V> {

@@ -1,8 +1,6 @@
 -- Sparse vectors: numbers at indices, 0 where there is none.
-use Rattle.std.specs.Prelude.{ℕ, List, unwrap_or}
-use Rattle.std.specs.Ordering.{nat_cmp}
-use Rattle.litemap_store.specs.Pairs.{value_at}
+use Rattle.litemap.specs.Words.{Contents, get, nat_cmp, unwrap_or, ℕ}
 
 -- the number at an index
-abbrev pub number_at : List (ℕ × ℕ) → ℕ → ℕ
-number_at L i = unwrap_or (value_at nat_cmp L i) 0
+abbrev pub number_at : Contents ℕ ℕ → ℕ → ℕ
+number_at m i = unwrap_or (get nat_cmp m i) 0

@@ -1,6 +1,7 @@
 //! A multiset: how often each element is there. It is a map that has no count of 0.
-ghost use Rattle.std.specs.Prelude.{◌≡◌, ◌+◌, ◌<◌, [], Err, IfSome, None, OnErr, OnOk, Some, filter, is_some, nat_le, unwrap_or};
-ghost use Rattle.litemap_store.specs.Pairs.{at, cut, put, value_at, write};
+ghost use Rattle.std.specs.Prelude.{◌≡◌, ◌+◌, ◌<◌, nat_le};
+ghost use Rattle.litemap.specs.Words.{Err, IfSome, None, OnErr, OnOk, Some, [], at, cut, filter, is_some, put, unwrap_or};
+ghost use Rattle.litemap.specs.Words.{value_at, write};
 
 use litemap::LiteMap;
 use litemap::store::{StoreBulkMut, StoreConstEmpty, StoreMut};
@@ -18,9 +19,9 @@ impl<K: Ord, S: StoreMut<K, usize>> Model for Bag<K, S> {
 
     ghost Value = { List (K × ℕ) };
 
-    ghost view = { λ bag. bag.counts.pairs };
+    ghost view = { λ bag. bag.counts.entries };
 
-    ghost invariant = { λ bag. All (λ p. 0 < p.1) bag.counts.pairs };
+    ghost invariant = { λ bag. All (λ p. 0 < p.1) bag.counts.entries };
 }
 
 /// Why an element isn't added.
@@ -34,7 +35,7 @@ pub enum BagError {
 
 impl<K: Ord, S: StoreMut<K, usize> + StoreConstEmpty<K, usize>> Bag<K, S> {
     /// Returns a multiset with no elements.
-    pub fn new(alloc: Global) -> Self
+    pub fn new(alloc: S::Alloc) -> Self
         ensures { result ≡ [] }
     {
         Bag {
@@ -102,7 +103,7 @@ fn keep_counts<K: Ord + Drop, S: StoreBulkMut<K, usize>>(
     counts: &mut LiteMap<K, usize, S>,
     least: usize,
 )
-    ensures { counts.new.pairs ≡ filter (λ p. nat_le least p.1) counts.old.pairs }
+    ensures { counts.new.entries ≡ filter (λ p. nat_le least p.1) counts.old.entries }
 {
     counts.retain(|_, count| *count >= least);
 }

@@ -1,14 +1,8 @@
 //! A map as any collection of the kit: in a struct that derives `Clone`, collected, indexed, changed in a loop that ends at an
 //! error, by index, and in a range of numbers; and a set of numbers. Nothing here has an attribute or a proof file.
-ghost use Rattle.std.specs.Prelude.{◌≡◌, [], IfOk, IsSome, OnErr, OnOk, Some, length, not, remove, slice_get, string_bytes, true};
-ghost use Rattle.std.specs.Map.{keys_of};
-ghost use Rattle.std.specs.Ordering.{nat_cmp};
-ghost use Rattle.std.specs.declared.ops.Bound.TheVariants.{Excluded, Included};
-ghost use Rattle.litemap.specs.Within.{within};
-ghost use Rattle.litemap_store.specs.Clones.{PairsBecame};
-ghost use Rattle.litemap_store.specs.Last.{Last};
-ghost use Rattle.litemap_store.specs.Pairs.{at, value_at};
-ghost use Rattle.litemap_store.specs.Queries.{by_string};
+ghost use Rattle.std.specs.Prelude.{◌≡◌, not, remove, true};
+ghost use Rattle.litemap.specs.Words.{Excluded, IfOk, Included, IsEmpty, IsSome, Last, OnErr, OnOk, PairsBecame, Some};
+ghost use Rattle.litemap.specs.Words.{get_by_text, keys, length, nat_cmp, slice_get, string_bytes, within};
 ghost use Rattle.litemap_set.specs.Sets.{contains};
 
 use litemap::VecMap;
@@ -32,7 +26,7 @@ pub struct TooLarge;
 pub fn copied(config: &Config) -> Result<Config, AllocError>
     ensures days { IfOk result (λ c. c.days ≡ config.now.days) }
     ensures limits { IfOk result (λ c. PairsBecame (λ a b. string_bytes b ≡ string_bytes a) (λ (x : _) y. y ≡ x)
-        config.now.limits.pairs c.limits.pairs) }
+        config.now.limits.entries c.limits.entries) }
 {
     config.clone()
 }
@@ -40,22 +34,22 @@ pub fn copied(config: &Config) -> Result<Config, AllocError>
 /// Takes all limits out of a configuration.
 pub fn taken(config: &mut Config) -> Result<VecMap<String, u32>, AllocError>
     ensures all { IfOk result (λ limits. limits ≡ config.old.limits) }
-    ensures empty { OnOk result (config.new.limits.pairs ≡ []) }
+    ensures empty { OnOk result (IsEmpty config.new.limits) }
 {
     mem::try_take(&mut config.limits)
 }
 
 /// The limit at a name that is there.
 pub fn limit_of(limits: &VecMap<String, u32>, name: &str) -> u32
-    requires { IsSome (at by_string limits.now.pairs name.now) }
-    ensures { Some result ≡ value_at by_string limits.now.pairs name.now }
+    requires { IsSome (get_by_text limits.now name.now) }
+    ensures { Some result ≡ get_by_text limits.now name.now }
 {
     limits[name]
 }
 
 /// Doubles limits up to the first one that has no double.
 pub fn double_all(limits: &mut VecMap<String, u32>) -> Result<(), TooLarge>
-    ensures { keys_of limits.new.pairs ≡ keys_of limits.old.pairs }
+    ensures { keys limits.new ≡ keys limits.old }
 {
     limits.try_update(|_, limit| match limit.checked_mul(2) {
         Some(double) => {
@@ -68,29 +62,29 @@ pub fn double_all(limits: &mut VecMap<String, u32>) -> Result<(), TooLarge>
 
 /// Removes the limit at an index.
 pub fn take_line(limits: &mut VecMap<String, u32>, index: usize) -> Option<(String, u32)>
-    ensures pair { result ≡ slice_get limits.old.pairs index }
-    ensures others { limits.new.pairs ≡ remove limits.old.pairs index }
+    ensures pair { result ≡ slice_get limits.old.entries index }
+    ensures others { limits.new.entries ≡ remove limits.old.entries index }
 {
     limits.remove_indexed(index)
 }
 
 /// A map of the last pair of each number.
 pub fn gathered(alloc: Global, pairs: Vec<(u32, u32)>) -> Result<VecMap<u32, u32>, AllocError>
-    ensures { IfOk result (λ map. Last nat_cmp pairs.items map.pairs) }
+    ensures { IfOk result (λ map. Last nat_cmp pairs.items map.entries) }
 {
     pairs.into_iter().collect(alloc)
 }
 
 /// How many numbers from 3 to 6 there are.
 pub fn number_within(map: &VecMap<u32, u32>) -> usize
-    ensures { result ≡ length (within nat_cmp map.now.pairs (Included 3) (Excluded 7)) }
+    ensures { result ≡ length (within nat_cmp map.now.entries (Included 3) (Excluded 7)) }
 {
     map.range_in(3..7).len()
 }
 
 /// Lowers all values up to the first one that is 0. The keys stay.
 pub fn cap(map: &mut ColumnMap<u32, u32>, most: u32)
-    ensures { keys_of map.new.pairs ≡ keys_of map.old.pairs }
+    ensures { keys map.new ≡ keys map.old }
 {
     for (_, value) in map {
         if *value == 0 {

@@ -1,12 +1,9 @@
 //! A configuration: settings by their names, where a user's go over the defaults.
 //! Each is a list in which a name may stand more than once: its last value counts. What a user sets wins, and no default is
 //! lost, as the contracts say.
-ghost use Rattle.std.specs.Prelude.{◌≡◌, None, Some, IfErr, IfOk, IfSome, IsNone, IsSome, OnOk, OnErr, if◌then◌else◌};
-ghost use Rattle.std.specs.Prelude.{is_some, reverse};
-ghost use Rattle.std.specs.Option.{option_or};
-ghost use Rattle.std.specs.String.{string_cmp};
-ghost use Rattle.litemap_store.specs.Pairs.{at, value_at};
-ghost use Rattle.litemap_store.specs.Queries.{by_string};
+ghost use Rattle.std.specs.Prelude.{◌≡◌, if◌then◌else◌};
+ghost use Rattle.litemap.specs.Words.{IfErr, IfOk, IfSome, IsNone, IsSome, IsUnchanged, None, OnErr, OnOk, Some, get};
+ghost use Rattle.litemap.specs.Words.{get_by_text, is_some, option_or, reverse, string_cmp, value_at};
 
 use litemap::store::NoRoom;
 use litemap::{LiteMap, VecMap};
@@ -25,11 +22,11 @@ pub fn configured(
     // A user's setting wins.
     ensures user { IfOk result (λ settings. (name value : _)
         → value_at string_cmp (reverse user.items) name ≡ Some value
-        → value_at string_cmp settings.pairs name ≡ Some value) }
+        → get string_cmp settings name ≡ Some value) }
     // No default is lost.
     ensures defaults { IfOk result (λ settings. (name : _)
         → value_at string_cmp (reverse user.items) name ≡ None
-        → value_at string_cmp settings.pairs name ≡ value_at string_cmp (reverse defaults.items) name) }
+        → get string_cmp settings name ≡ value_at string_cmp (reverse defaults.items) name) }
 {
     let mut settings = LiteMap::from_iter(alloc, defaults)?;
     settings.extend(alloc, user)?;
@@ -43,9 +40,9 @@ pub fn override_with(
     user: Vec<(String, String)>,
 ) -> Result<(), AllocError>
     // The last setting of the user if there is one, else the one that was there.
-    ensures found { OnOk result ((name : _) → value_at string_cmp settings.new.pairs name
-        ≡ option_or (value_at string_cmp (reverse user.items) name) (value_at string_cmp settings.old.pairs name)) }
-    ensures unchanged { OnErr result (settings.new.pairs ≡ settings.old.pairs) }
+    ensures found { OnOk result ((name : _) → get string_cmp settings.new name
+        ≡ option_or (value_at string_cmp (reverse user.items) name) (get string_cmp settings.old name)) }
+    ensures unchanged { OnErr result (IsUnchanged settings.old settings.new) }
 {
     settings.keys_ascend();
     settings.extend_from_vec(alloc, user)?;
@@ -60,16 +57,16 @@ pub fn overlay(
     user: Settings,
 ) -> Result<Option<Settings>, NoRoom<Settings>>
     // The user's setting if there is one, else the one that was there.
-    ensures found { OnOk result ((name : _) → value_at by_string settings.new.pairs name
-        ≡ option_or (value_at by_string user.pairs name) (value_at by_string settings.old.pairs name)) }
+    ensures found { OnOk result ((name : _) → get_by_text settings.new name
+        ≡ option_or (get_by_text user name) (get_by_text settings.old name)) }
     // What is displaced: the old setting if the user has one, else nothing.
-    ensures displaced { IfOk result (λ rest. IfSome rest (λ old. (name : _) → value_at by_string old.pairs name
-        ≡ if is_some (at by_string user.pairs name) then value_at by_string settings.old.pairs name else None)) }
+    ensures displaced { IfOk result (λ rest. IfSome rest (λ old. (name : _) → get_by_text old name
+        ≡ if is_some (get_by_text user name) then get_by_text settings.old name else None)) }
     // If nothing is displaced, the user has no setting that was there.
-    ensures none_common { IfOk result (λ rest. IsNone rest → (name : _) → IsSome (value_at by_string user.pairs name)
-        → value_at by_string settings.old.pairs name ≡ None) }
-    ensures unchanged { OnErr result (settings.new.pairs ≡ settings.old.pairs) }
-    ensures back { IfErr result (λ refused. refused.back.pairs ≡ user.pairs) }
+    ensures none_common { IfOk result (λ rest. IsNone rest → (name : _) → IsSome (get_by_text user name)
+        → get_by_text settings.old name ≡ None) }
+    ensures unchanged { OnErr result (IsUnchanged settings.old settings.new) }
+    ensures back { IfErr result (λ refused. IsUnchanged user refused.back) }
 {
     settings.extend_from_litemap(alloc, user)
 }

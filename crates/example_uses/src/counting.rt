@@ -1,9 +1,7 @@
 //! How often each word occurs in a list.
-ghost use Rattle.std.specs.Prelude.{◌≡◌, ◌≢◌, ◌+◌, ◌<◌, IfOk, OnOk, OnErr, Some, if◌then◌else◌, string_bytes, unwrap_or};
-ghost use Rattle.std.specs.List.{count_by};
-ghost use Rattle.std.specs.Ordering.{is_eq};
-ghost use Rattle.litemap_store.specs.Pairs.{put, value_at};
-ghost use Rattle.litemap_store.specs.Queries.{by_string};
+ghost use Rattle.std.specs.Prelude.{◌≡◌, ◌≢◌, ◌+◌, ◌<◌, if◌then◌else◌};
+ghost use Rattle.litemap.specs.Words.{IfOk, IsUnchanged, OnErr, OnOk, Some, count_by, get, get_by_text, is_eq, put};
+ghost use Rattle.litemap.specs.Words.{string_bytes, unwrap_or};
 
 use litemap::store::StoreMut;
 use litemap::{LiteMap, VecMap};
@@ -14,11 +12,11 @@ pub fn count_word<K: Ord + Drop, S: StoreMut<K, usize>>(
     counts: &mut LiteMap<K, usize, S>,
     word: K,
 ) -> Result<(), AllocError>
-    requires { unwrap_or (value_at K.cmp counts.old.pairs word) 0 < usize.MAX }
-    ensures counted { OnOk result ((other : K) → unwrap_or (value_at K.cmp counts.new.pairs other) 0
-        ≡ if is_eq (K.cmp word other) then unwrap_or (value_at K.cmp counts.old.pairs other) 0 + 1
-        else unwrap_or (value_at K.cmp counts.old.pairs other) 0) }
-    ensures unchanged { OnErr result (counts.new.pairs ≡ counts.old.pairs) }
+    requires { unwrap_or (get K.cmp counts.old word) 0 < usize.MAX }
+    ensures counted { OnOk result ((other : K) → unwrap_or (get K.cmp counts.new other) 0
+        ≡ if is_eq (K.cmp word other) then unwrap_or (get K.cmp counts.old other) 0 + 1
+        else unwrap_or (get K.cmp counts.old other) 0) }
+    ensures unchanged { OnErr result (IsUnchanged counts.old counts.new) }
 {
     put_count(counts, word)
 }
@@ -28,12 +26,12 @@ pub(crate) fn put_count<K: Ord + Drop, S: StoreMut<K, usize>>(
     counts: &mut LiteMap<K, usize, S>,
     word: K,
 ) -> Result<(), AllocError>
-    requires { unwrap_or (value_at K.cmp counts.old.pairs word) 0 < usize.MAX }
-    ensures put { OnOk result (counts.new.pairs
-        ≡ put K.cmp counts.old.pairs word (unwrap_or (value_at K.cmp counts.old.pairs word) 0 + 1)) }
-    ensures unchanged { OnErr result (counts.new.pairs ≡ counts.old.pairs) }
+    requires { unwrap_or (get K.cmp counts.old word) 0 < usize.MAX }
+    ensures put { OnOk result (counts.new.entries
+        ≡ put K.cmp counts.old.entries word (unwrap_or (get K.cmp counts.old word) 0 + 1)) }
+    ensures unchanged { OnErr result (IsUnchanged counts.old counts.new) }
 {
-    counts.entry(word).and_modify(|n| *n += 1).or_insert(1)?;
+    *counts.entry(word).or_insert(0)? += 1;
     Ok(())
 }
 
@@ -43,7 +41,7 @@ pub fn count_words<K: Ord + Copy>(
     alloc: Global,
     words: &[K],
 ) -> Result<VecMap<K, usize>, AllocError>
-    ensures { IfOk result (λ counts. (word : K) → unwrap_or (value_at K.cmp counts.pairs word) 0
+    ensures { IfOk result (λ counts. (word : K) → unwrap_or (get K.cmp counts word) 0
         ≡ count_by (λ w. is_eq (K.cmp w word)) words.now) }
 {
     let mut counts = LiteMap::new_vec(alloc);
@@ -59,12 +57,12 @@ pub type Names = VecMap<String, u32>;
 /// Counts a name once more. All others stay. With all lemmas of the root's set the search reaches its limit here.
 #[tactic(auto, using(litemap::proofs::Texts::texts))]
 pub fn count_name(names: &mut Names, name: String) -> Result<(), AllocError>
-    requires { unwrap_or (value_at by_string names.old.pairs (string_bytes name)) 0 < u32.MAX }
-    ensures counted { OnOk result (value_at by_string names.new.pairs (string_bytes name)
-        ≡ Some (unwrap_or (value_at by_string names.old.pairs (string_bytes name)) 0 + 1)) }
+    requires { unwrap_or (get_by_text names.old (string_bytes name)) 0 < u32.MAX }
+    ensures counted { OnOk result (get_by_text names.new (string_bytes name)
+        ≡ Some (unwrap_or (get_by_text names.old (string_bytes name)) 0 + 1)) }
     ensures others { OnOk result ((other : _) → other ≢ string_bytes name
-        → value_at by_string names.new.pairs other ≡ value_at by_string names.old.pairs other) }
-    ensures unchanged { OnErr result (names.new.pairs ≡ names.old.pairs) }
+        → get_by_text names.new other ≡ get_by_text names.old other) }
+    ensures unchanged { OnErr result (IsUnchanged names.old names.new) }
 {
     names.entry(name).and_modify(|n| *n += 1).or_insert(1)?;
     Ok(())

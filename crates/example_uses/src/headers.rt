@@ -1,10 +1,8 @@
 //! A header list: values by their names, in the order of the names' bytes. Its strings are its own, or are borrowed from a
 //! message or from the program.
-ghost use Rattle.std.specs.Prelude.{◌≡◌, ◌≢◌, None, Some, IfOk, OnOk, OnErr, string_bytes};
-ghost use Rattle.litemap_store.specs.Pairs.{value_at};
-ghost use Rattle.litemap_store.specs.Queries.{by_string};
-ghost use Rattle.litemap_store.specs.Clones.{PairsBecame};
-ghost use Rattle.litemap.specs.ByBytes.{by_bytes};
+ghost use Rattle.std.specs.Prelude.{◌≡◌, ◌≢◌};
+ghost use Rattle.litemap.specs.Words.{IfOk, IsUnchanged, None, OnErr, OnOk, PairsBecame, Some, by_bytes, get, get_by_text};
+ghost use Rattle.litemap.specs.Words.{string_bytes};
 
 use litemap::VecMap;
 use std::alloc::{AllocError, Global};
@@ -14,21 +12,20 @@ pub type Headers = VecMap<String, String>;
 
 /// Sets a header, and returns the value before. All others stay.
 pub fn set(headers: &mut Headers, name: String, value: String) -> Result<Option<String>, AllocError>
-    ensures old { IfOk result (λ old. old ≡ value_at by_string headers.old.pairs (string_bytes name)) }
-    ensures set { OnOk result (value_at by_string headers.new.pairs (string_bytes name) ≡ Some value) }
+    ensures old { IfOk result (λ old. old ≡ get_by_text headers.old (string_bytes name)) }
+    ensures set { OnOk result (get_by_text headers.new (string_bytes name) ≡ Some value) }
     ensures others { OnOk result ((other : _) → other ≢ string_bytes name
-        → value_at by_string headers.new.pairs other ≡ value_at by_string headers.old.pairs other) }
-    ensures unchanged { OnErr result (headers.new.pairs ≡ headers.old.pairs) }
+        → get_by_text headers.new other ≡ get_by_text headers.old other) }
+    ensures unchanged { OnErr result (IsUnchanged headers.old headers.new) }
 {
     Ok(headers.insert(name, value)?)
 }
 
 /// Removes a header. All others stay.
 pub fn remove(headers: &mut Headers, name: &str) -> Option<String>
-    ensures value { result ≡ value_at by_string headers.old.pairs name.now }
-    ensures gone { value_at by_string headers.new.pairs name.now ≡ None }
-    ensures others { (other : _) → other ≢ name.now
-        → value_at by_string headers.new.pairs other ≡ value_at by_string headers.old.pairs other }
+    ensures value { result ≡ get_by_text headers.old name.now }
+    ensures gone { get_by_text headers.new name.now ≡ None }
+    ensures others { (other : _) → other ≢ name.now → get_by_text headers.new other ≡ get_by_text headers.old other }
 {
     headers.remove(name)
 }
@@ -37,7 +34,7 @@ pub fn remove(headers: &mut Headers, name: &str) -> Option<String>
 pub fn copy_of(alloc: Global, headers: &Headers) -> Result<Headers, AllocError>
     ensures { IfOk result (λ copy. PairsBecame
         (λ text clone. string_bytes clone ≡ string_bytes text) (λ text clone. string_bytes clone ≡ string_bytes text)
-        headers.now.pairs copy.pairs) }
+        headers.now.entries copy.entries) }
 {
     headers.try_clone(alloc)
 }
@@ -51,8 +48,8 @@ pub fn set_borrowed<'k>(
     name: &'k str,
     value: &'k str,
 ) -> Result<(), AllocError>
-    ensures set { OnOk result (value_at by_bytes headers.new.pairs name.entry ≡ Some value.entry) }
-    ensures unchanged { OnErr result (headers.new.pairs ≡ headers.old.pairs) }
+    ensures set { OnOk result (get by_bytes headers.new name.entry ≡ Some value.entry) }
+    ensures unchanged { OnErr result (IsUnchanged headers.old headers.new) }
 {
     headers.insert(name, value)?;
     Ok(())
@@ -60,7 +57,7 @@ pub fn set_borrowed<'k>(
 
 /// Removes a header whose string is borrowed.
 pub fn remove_borrowed<'k>(headers: &mut Borrowed<'k>, name: &'k str) -> Option<&'k str>
-    ensures gone { value_at by_bytes headers.new.pairs name.entry ≡ None }
+    ensures gone { get by_bytes headers.new name.entry ≡ None }
 {
     headers.remove(&name)
 }

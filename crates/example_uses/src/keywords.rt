@@ -1,10 +1,7 @@
 //! The keywords of a locale, such as `buddhist` at `ca`: a map that keeps one pair in itself, since most locales have no keyword
 //! or one.
-ghost use Rattle.std.specs.Prelude.{◌≡◌, ◌≢◌, ◌∷◌, [], None, OnErr, OnOk, Some};
-ghost use Rattle.std.specs.Option.{option_or};
-ghost use Rattle.std.specs.declared.cmp.Ordering.TheVariants.{Equal};
-ghost use Rattle.litemap_store.specs.Pairs.{value_at};
-ghost use Rattle.litemap.specs.ByBytes.{by_bytes};
+ghost use Rattle.std.specs.Prelude.{◌≡◌, ◌≢◌, ◌∷◌};
+ghost use Rattle.litemap.specs.Words.{Equal, IsUnchanged, None, OnErr, OnOk, Some, [], by_bytes, get, option_or, spare};
 
 use litemap_short::ShortMap;
 use std::alloc::{AllocError, Global};
@@ -14,7 +11,7 @@ pub type Keywords<'k> = ShortMap<&'k str, &'k str>;
 
 /// The keywords of a locale that has one. They take no memory.
 pub fn only<'k>(alloc: Global, key: &'k str, value: &'k str) -> Keywords<'k>
-    ensures { result.pairs ≡ (key.entry, value.entry) ∷ [] }
+    ensures { result.entries ≡ (key.entry, value.entry) ∷ [] }
 {
     let mut keywords = Keywords::new(alloc);
     keywords.insert(key, value).unwrap();
@@ -23,13 +20,13 @@ pub fn only<'k>(alloc: Global, key: &'k str, value: &'k str) -> Keywords<'k>
 
 /// Adds a keyword. Of two with one key the first counts. It takes memory for the second key.
 pub fn add<'k>(keywords: &mut Keywords<'k>, key: &'k str, value: &'k str) -> Result<(), AllocError>
-    ensures first { OnOk result (value_at by_bytes keywords.new.pairs key.entry
-        ≡ option_or (value_at by_bytes keywords.old.pairs key.entry) (Some value.entry)) }
+    ensures first { OnOk result (get by_bytes keywords.new key.entry
+        ≡ option_or (get by_bytes keywords.old key.entry) (Some value.entry)) }
     ensures others { OnOk result ((other : _) → by_bytes other key.entry ≢ Equal
-        → value_at by_bytes keywords.new.pairs other ≡ value_at by_bytes keywords.old.pairs other) }
-    ensures unchanged { OnErr result (keywords.new.pairs ≡ keywords.old.pairs) }
-    ensures absent { OnErr result (value_at by_bytes keywords.old.pairs key.entry ≡ None) }
-    ensures full { OnErr result (keywords.old.room ≡ 0) }
+        → get by_bytes keywords.new other ≡ get by_bytes keywords.old other) }
+    ensures unchanged { OnErr result (IsUnchanged keywords.old keywords.new) }
+    ensures absent { OnErr result (get by_bytes keywords.old key.entry ≡ None) }
+    ensures full { OnErr result (spare keywords.old ≡ 0) }
 {
     keywords.try_insert(key, value)?;
     Ok(())

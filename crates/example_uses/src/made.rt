@@ -1,7 +1,7 @@
 //! Values that are made where their key is absent.
-ghost use Rattle.std.specs.Prelude.{◌≡◌, Ok, Err, Some, IsNone, IsSome, IsOk, IfOk, OnErr};
+ghost use Rattle.std.specs.Prelude.{◌≡◌};
 ghost use Rattle.std.specs.Fn.{FnOnceReturnsAt, FnOnceTakesAt};
-ghost use Rattle.litemap_store.specs.Pairs.{at, put, value_at};
+ghost use Rattle.litemap.specs.Words.{Err, IfOk, IsNone, IsOk, IsSome, IsUnchanged, Ok, OnErr, Some, get, put, spare};
 ghost use Rattle.litemap.specs.TryFault.{IfClosure, IfNoRoom};
 
 use litemap::store::StoreMut;
@@ -18,18 +18,15 @@ pub fn value_or_made<K: Ord, V: Copy, S: StoreMut<K, V>, E, F: FnOnce(&K) -> Res
 where
     K: Drop,
     F: Drop,
-    requires { IsNone (at K.cmp map.old.pairs key) → FnOnceTakesAt F.FnOnce f key }
-    ensures found { IsSome (at K.cmp map.old.pairs key) → IsOk result }
-    ensures value { IsSome (at K.cmp map.old.pairs key)
-        → IfOk result (λ v. Some v ≡ value_at K.cmp map.old.pairs key) }
-    ensures present { IsSome (at K.cmp map.old.pairs key) → map.new ≡ map.old }
-    ensures made { IsNone (at K.cmp map.old.pairs key)
-        → IfOk result (λ v. FnOnceReturnsAt F.FnOnce f key (Ok v)) }
-    ensures put { IsNone (at K.cmp map.old.pairs key)
-        → IfOk result (λ v. map.new.pairs ≡ put K.cmp map.old.pairs key v) }
-    ensures unchanged { OnErr result (map.new.pairs ≡ map.old.pairs) }
+    requires { IsNone (get K.cmp map.old key) → FnOnceTakesAt F.FnOnce f key }
+    ensures found { IsSome (get K.cmp map.old key) → IsOk result }
+    ensures value { IsSome (get K.cmp map.old key) → IfOk result (λ v. Some v ≡ get K.cmp map.old key) }
+    ensures present { IsSome (get K.cmp map.old key) → map.new ≡ map.old }
+    ensures made { IsNone (get K.cmp map.old key) → IfOk result (λ v. FnOnceReturnsAt F.FnOnce f key (Ok v)) }
+    ensures put { IsNone (get K.cmp map.old key) → IfOk result (λ v. map.new.entries ≡ put K.cmp map.old.entries key v) }
+    ensures unchanged { OnErr result (IsUnchanged map.old map.new) }
     ensures closure { IfClosure result (λ fault. FnOnceReturnsAt F.FnOnce f key (Err fault)) }
-    ensures full { IfNoRoom result (λ _ _. map.old.room ≡ 0) }
+    ensures full { IfNoRoom result (λ _ _. spare map.old ≡ 0) }
 {
     let index = map.try_find_or_insert(key, f)?;
     let (_, value) = map.get_indexed(index).unwrap();

@@ -2,10 +2,9 @@
 //!
 //! A source of one's own says of each of its states which list it can still give, how long that is, which errors it may return
 //! and whether it may end; then it writes `next_pair`. What `read_pairs` promises is about that list.
-ghost use Rattle.std.specs.Prelude.{◌≡◌, ◌≢◌, [], ⊤, All, IfErr, IfOk, OnOk, length, map, reverse};
+ghost use Rattle.std.specs.Prelude.{◌≡◌, ◌≢◌, ⊤};
+ghost use Rattle.litemap.specs.Words.{All, IfErr, IfOk, OnOk, [], by_bytes, get, length, map, reverse, value_at};
 ghost use Rattle.litemap_read.specs.ReadFault.{IfSource};
-ghost use Rattle.litemap_store.specs.Pairs.{value_at};
-ghost use Rattle.litemap.specs.ByBytes.{by_bytes};
 
 use crate::headers::Borrowed;
 use litemap_read::{PairSource, ReadFault, read_pairs};
@@ -69,7 +68,7 @@ pub fn read_headers<'a>(
     alloc: Global,
     fields: &'a [Field<'a>],
 ) -> Result<Borrowed<'a>, ReadFault<Nameless>>
-    ensures last { IfOk result (λ headers. (name : _) → value_at by_bytes headers.pairs name
+    ensures last { IfOk result (λ headers. (name : _) → get by_bytes headers name
         ≡ value_at by_bytes (reverse (map (λ f. (f.name, f.value)) fields.now)) name) }
     ensures named { OnOk result (All (λ f. f.name.now ≢ []) fields.now) }
     ensures nameless { IfErr result

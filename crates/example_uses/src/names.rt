@@ -1,8 +1,6 @@
 //! Paths looked up in tables of which a map borrows the pairs: a table that is passed, and a constant one.
-ghost use Rattle.std.specs.Prelude.{◌≡◌, map};
-ghost use Rattle.litemap_store.specs.Pairs.{Rising, value_at};
-ghost use Rattle.litemap_store.specs.Queries.{bytes_cmp};
-ghost use Rattle.litemap.specs.ByBytes.{by_bytes};
+ghost use Rattle.std.specs.Prelude.{◌≡◌};
+ghost use Rattle.litemap.specs.Words.{Rising, by_bytes, bytes_cmp, map, value_at};
 
 use litemap::LiteMap;
 use litemap::store::SliceStore;

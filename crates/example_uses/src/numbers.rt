@@ -1,14 +1,10 @@
 //! Numbers as keys, and keys of any type. What lookups find after a change, the calls themselves say.
-ghost use Rattle.std.specs.Prelude.{◌≡◌, ◌≢◌, ◌+◌, ◌-◌, ◌<◌, ◌≤◌, None, Ok, Some, IfErr, IfSome, IsTrue, OnErr, OnOk};
-ghost use Rattle.std.specs.Prelude.{is_some, length, option_map, slice_get};
+ghost use Rattle.std.specs.Prelude.{◌≡◌, ◌≢◌, ◌+◌, ◌-◌, ◌<◌, ◌≤◌};
 ghost use Rattle.std.specs.IoError.{error_kind};
-ghost use Rattle.std.specs.Map.Iter.{deref_pair};
-ghost use Rattle.std.specs.Ordering.{int_cmp, nat_cmp};
-ghost use Rattle.std.specs.declared.cmp.Ordering.TheVariants.{Equal};
 ghost use Rattle.std.specs.declared.io.ErrorKind.TheVariants.{OutOfMemory};
-ghost use Rattle.std.specs.declared.ops.Bound.TheVariants.{Included, Unbounded};
-ghost use Rattle.litemap_store.specs.Pairs.{at, index_of, place, value_at, value_in};
-ghost use Rattle.litemap.specs.Within.{within};
+ghost use Rattle.litemap.specs.Words.{Equal, IfErr, IfSome, Included, IsTrue, IsUnchanged, None, Ok, OnErr, OnOk, Some};
+ghost use Rattle.litemap.specs.Words.{Unbounded, btree_map_len, deref_pair, get, index_of, int_cmp, is_some, length};
+ghost use Rattle.litemap.specs.Words.{nat_cmp, option_map, place, slice_get, value_in, within};
 
 use litemap::store::StoreMut;
 use litemap::{LiteMap, VecMap};
@@ -25,11 +21,11 @@ pub type Readings = VecMap<i64, u8>;
 /// Sets an age, which is then found, at the index where it belongs. All others stay. Its error is an `io::Error`, as
 /// that of a function which reads input, too.
 pub fn set_age(ages: &mut Ages, id: u32, age: u8) -> io::Result<()>
-    ensures there { OnOk result (value_at nat_cmp ages.new.pairs id ≡ Some age) }
-    ensures place { OnOk result (index_of nat_cmp ages.new.pairs id ≡ Ok (place nat_cmp ages.old.pairs id)) }
+    ensures there { OnOk result (get nat_cmp ages.new id ≡ Some age) }
+    ensures place { OnOk result (index_of nat_cmp ages.new.entries id ≡ Ok (place nat_cmp ages.old.entries id)) }
     ensures others { OnOk result ((other : _) → other ≢ id
-        → value_at nat_cmp ages.new.pairs other ≡ value_at nat_cmp ages.old.pairs other) }
-    ensures unchanged { OnErr result (ages.new.pairs ≡ ages.old.pairs) }
+        → get nat_cmp ages.new other ≡ get nat_cmp ages.old other) }
+    ensures unchanged { OnErr result (IsUnchanged ages.old ages.new) }
     ensures memory { IfErr result (λ fault. error_kind fault ≡ OutOfMemory) }
 {
     ages.insert(id, age)?;
@@ -38,20 +34,18 @@ pub fn set_age(ages: &mut Ages, id: u32, age: u8) -> io::Result<()>
 
 /// Forgets someone, and returns the age that was there. All others stay.
 pub fn forget(ages: &mut Ages, id: u32) -> Option<u8>
-    ensures value { result ≡ value_at nat_cmp ages.old.pairs id }
-    ensures gone { value_at nat_cmp ages.new.pairs id ≡ None }
-    ensures others { (other : _) → other ≢ id
-        → value_at nat_cmp ages.new.pairs other ≡ value_at nat_cmp ages.old.pairs other }
+    ensures value { result ≡ get nat_cmp ages.old id }
+    ensures gone { get nat_cmp ages.new id ≡ None }
+    ensures others { (other : _) → other ≢ id → get nat_cmp ages.new other ≡ get nat_cmp ages.old other }
 {
     ages.remove(&id)
 }
 
 /// Writes an age if someone has the number. All others stay.
 pub fn correct(ages: &mut Ages, id: u32, age: u8) -> bool
-    ensures there { result ≡ is_some (at nat_cmp ages.old.pairs id) }
-    ensures set { IsTrue result → value_at nat_cmp ages.new.pairs id ≡ Some age }
-    ensures others { (other : _) → other ≢ id
-        → value_at nat_cmp ages.new.pairs other ≡ value_at nat_cmp ages.old.pairs other }
+    ensures there { result ≡ is_some (get nat_cmp ages.old id) }
+    ensures set { IsTrue result → get nat_cmp ages.new id ≡ Some age }
+    ensures others { (other : _) → other ≢ id → get nat_cmp ages.new other ≡ get nat_cmp ages.old other }
 {
     match ages.get_mut(&id) {
         Some(slot) => {
@@ -64,9 +58,9 @@ pub fn correct(ages: &mut Ages, id: u32, age: u8) -> bool
 
 /// Writes the age at an index. All others stay: those at other indices, and those of other numbers.
 pub fn correct_at(ages: &mut Ages, index: usize, age: u8)
-    ensures places { (other : _) → other ≢ index → value_in ages.new.pairs other ≡ value_in ages.old.pairs other }
-    ensures others { (other : _) → IfSome (slice_get ages.old.pairs index) (λ p. p.0 ≢ other)
-        → value_at nat_cmp ages.new.pairs other ≡ value_at nat_cmp ages.old.pairs other }
+    ensures places { (other : _) → other ≢ index → value_in ages.new.entries other ≡ value_in ages.old.entries other }
+    ensures others { (other : _) → IfSome (slice_get ages.old.entries index) (λ p. p.0 ≢ other)
+        → get nat_cmp ages.new other ≡ get nat_cmp ages.old other }
 {
     if let Some(slot) = ages.get_indexed_mut(index) {
         *slot = age;
@@ -75,10 +69,9 @@ pub fn correct_at(ages: &mut Ages, index: usize, age: u8)
 
 /// Drops those with smaller numbers, and returns how many they were. All others stay.
 pub fn drop_below(ages: &mut Ages, id: u32) -> usize
-    ensures dropped { (other : _) → other < id → value_at nat_cmp ages.new.pairs other ≡ None }
-    ensures others { (other : _) → id ≤ other
-        → value_at nat_cmp ages.new.pairs other ≡ value_at nat_cmp ages.old.pairs other }
-    ensures number { length ages.new.pairs + result ≡ length ages.old.pairs }
+    ensures dropped { (other : _) → other < id → get nat_cmp ages.new other ≡ None }
+    ensures others { (other : _) → id ≤ other → get nat_cmp ages.new other ≡ get nat_cmp ages.old other }
+    ensures number { btree_map_len ages.new + result ≡ btree_map_len ages.old }
 {
     let before = ages.len();
     ages.retain(|number, _| *number >= id);
@@ -87,8 +80,8 @@ pub fn drop_below(ages: &mut Ages, id: u32) -> usize
 
 /// The pair at a number, or at the next one below it.
 pub fn floor(ages: &Ages, id: u32) -> Option<(&u32, &u8)>
-    ensures { option_map deref_pair result ≡ slice_get (within nat_cmp ages.entry.now.pairs Unbounded (Included id))
-        (length (within nat_cmp ages.entry.now.pairs Unbounded (Included id)) - 1) }
+    ensures { option_map deref_pair result ≡ slice_get (within nat_cmp ages.entry.now.entries Unbounded (Included id))
+        (length (within nat_cmp ages.entry.now.entries Unbounded (Included id)) - 1) }
 {
     ages.iter_range(Bound::Unbounded, Bound::Included(&id))
         .next_back()
@@ -96,7 +89,7 @@ pub fn floor(ages: &Ages, id: u32) -> Option<(&u32, &u8)>
 
 /// The pair at a number, or at the next one above it.
 pub fn ceiling(ages: &Ages, id: u32) -> Option<(&u32, &u8)>
-    ensures { option_map deref_pair result ≡ slice_get (within nat_cmp ages.entry.now.pairs (Included id) Unbounded) 0 }
+    ensures { option_map deref_pair result ≡ slice_get (within nat_cmp ages.entry.now.entries (Included id) Unbounded) 0 }
 {
     ages.iter_range(Bound::Included(&id), Bound::Unbounded)
         .next()
@@ -104,9 +97,9 @@ pub fn ceiling(ages: &Ages, id: u32) -> Option<(&u32, &u8)>
 
 /// Sets a reading, which is then found. All others stay.
 pub fn set_reading(readings: &mut Readings, time: i64, level: u8) -> Result<(), AllocError>
-    ensures there { OnOk result (value_at int_cmp readings.new.pairs time ≡ Some level) }
+    ensures there { OnOk result (get int_cmp readings.new time ≡ Some level) }
     ensures others { OnOk result ((other : _) → other ≢ time
-        → value_at int_cmp readings.new.pairs other ≡ value_at int_cmp readings.old.pairs other) }
+        → get int_cmp readings.new other ≡ get int_cmp readings.old other) }
 {
     readings.insert(time, level)?;
     Ok(())
@@ -114,17 +107,15 @@ pub fn set_reading(readings: &mut Readings, time: i64, level: u8) -> Result<(), 
 
 /// Takes a pair out, over every map. All others stay.
 pub fn take<K: Ord + Drop, V, S: StoreMut<K, V>>(map: &mut LiteMap<K, V, S>, key: &K) -> Option<V>
-    ensures gone { value_at K.cmp map.new.pairs key.now ≡ None }
-    ensures others { (other : _) → K.cmp other key.now ≢ Equal
-        → value_at K.cmp map.new.pairs other ≡ value_at K.cmp map.old.pairs other }
+    ensures gone { get K.cmp map.new key.now ≡ None }
+    ensures others { (other : _) → K.cmp other key.now ≢ Equal → get K.cmp map.new other ≡ get K.cmp map.old other }
 {
     map.remove(key)
 }
 
 /// Writes a value if its key is there, over every map. All others stay.
 pub fn overwrite<K: Ord, V: Drop, S: StoreMut<K, V>>(map: &mut LiteMap<K, V, S>, key: &K, value: V)
-    ensures others { (other : _) → K.cmp other key.now ≢ Equal
-        → value_at K.cmp map.new.pairs other ≡ value_at K.cmp map.old.pairs other }
+    ensures others { (other : _) → K.cmp other key.now ≢ Equal → get K.cmp map.new other ≡ get K.cmp map.old other }
 {
     if let Some(slot) = map.get_mut(key) {
         *slot = value;

@@ -1,11 +1,10 @@
 //! A query of a caller's own: people are ordered by their number alone, and looked up by a number.
-ghost use Rattle.std.specs.Prelude.{◌≡◌, ◌≢◌, ◌==◌, ℕ, None, OnOk, Some};
+ghost use Rattle.std.specs.Prelude.{◌≡◌, ◌≢◌, ◌==◌};
 ghost use Rattle.std.proofs.Common.{rules};
 ghost use Rattle.std.specs.Cmp.{nat_cmp_total, partial_order_from_own_ties};
 ghost use Rattle.std.specs.Cmp.Rules.{comparing};
-ghost use Rattle.std.specs.Option.{option_copied};
-ghost use Rattle.std.specs.Ordering.{as_partial_cmp, nat_cmp, on};
-ghost use Rattle.litemap_store.specs.Pairs.{value_at};
+ghost use Rattle.std.specs.Ordering.{as_partial_cmp, on};
+ghost use Rattle.litemap.specs.Words.{None, OnOk, Some, get, nat_cmp, option_copied, ℕ};
 ghost use Rattle.litemap_store.specs.Queries.{key_one_side, key_respects};
 
 use litemap::{Query, VecMap};
@@ -82,8 +81,7 @@ impl Query<Person> for Number {
 
 /// What is kept for the person with a number.
 pub fn kept_for<'a, V>(map: &'a VecMap<Person, V>, number: u32) -> Option<&'a V>
-    ensures { option_copied result
-        ≡ value_at (λ person number. nat_cmp person.number number) map.entry.now.pairs number }
+    ensures { option_copied result ≡ get (λ person number. nat_cmp person.number number) map.entry.now number }
 {
     map.get(Number(number))
 }
@@ -94,7 +92,7 @@ pub fn keep_for<V: Drop>(
     person: Person,
     value: V,
 ) -> Result<(), AllocError>
-    ensures kept { OnOk result (value_at (λ person number. nat_cmp person.number number) map.new.pairs person.number ≡ Some value) }
+    ensures kept { OnOk result (get (λ person number. nat_cmp person.number number) map.new person.number ≡ Some value) }
 {
     map.insert(person, value)?;
     Ok(())
@@ -102,10 +100,10 @@ pub fn keep_for<V: Drop>(
 
 /// Drops the person with a number. All others keep what they have.
 pub fn drop_person<V: Drop>(map: &mut VecMap<Person, V>, number: u32)
-    ensures gone { value_at (λ person number. nat_cmp person.number number) map.new.pairs number ≡ None }
+    ensures gone { get (λ person number. nat_cmp person.number number) map.new number ≡ None }
     ensures others { (other : _) → other ≢ number
-        → value_at (λ person number. nat_cmp person.number number) map.new.pairs other
-        ≡ value_at (λ person number. nat_cmp person.number number) map.old.pairs other }
+        → get (λ person number. nat_cmp person.number number) map.new other
+        ≡ get (λ person number. nat_cmp person.number number) map.old other }
 {
     map.remove(Number(number));
 }

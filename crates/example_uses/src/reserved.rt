@@ -1,7 +1,6 @@
 //! Pairs of two maps that are inserted together or not at all: room is reserved first, and what follows is proved not to fail.
-ghost use Rattle.std.specs.Prelude.{◌≡◌, ◌∷◌, List, OnErr, OnOk};
-ghost use Rattle.std.specs.declared.cmp.Ordering.TheVariants.{Less};
-ghost use Rattle.litemap_store.specs.Pairs.{BelowAll, put};
+ghost use Rattle.std.specs.Prelude.{◌≡◌, ◌∷◌};
+ghost use Rattle.litemap.specs.Words.{BelowAll, IsUnchanged, Less, List, OnErr, OnOk, put};
 
 use litemap::LiteMap;
 use litemap::store::StoreMut;
@@ -14,9 +13,9 @@ pub fn insert_both<K: Ord + Drop, V: Drop, S: StoreMut<K, V>>(
     first: (K, V),
     second: (K, V),
 ) -> Result<(), AllocError>
-    ensures one { OnOk result (one.new.pairs ≡ put K.cmp one.old.pairs first.0 first.1) }
-    ensures other { OnOk result (other.new.pairs ≡ put K.cmp other.old.pairs second.0 second.1) }
-    ensures unchanged { OnErr result ((one.new.pairs ≡ one.old.pairs) × (other.new.pairs ≡ other.old.pairs)) }
+    ensures one { OnOk result (one.new.entries ≡ put K.cmp one.old.entries first.0 first.1) }
+    ensures other { OnOk result (other.new.entries ≡ put K.cmp other.old.entries second.0 second.1) }
+    ensures unchanged { OnErr result (IsUnchanged one.old one.new × IsUnchanged other.old other.new) }
 {
     one.reserve(1)?;
     other.reserve(1)?;
@@ -31,8 +30,8 @@ pub fn insert_first<K: Ord + Drop, V: Drop, S: StoreMut<K, V>>(
     key: K,
     value: V,
 ) -> Result<(), AllocError>
-    requires { BelowAll K.cmp key map.old.pairs }
-    ensures { OnOk result (map.new.pairs ≡ (key, value) ∷ map.old.pairs) }
+    requires { BelowAll K.cmp key map.old.entries }
+    ensures { OnOk result (map.new.entries ≡ (key, value) ∷ map.old.entries) }
 {
     map.insert(key, value)?;
     Ok(())
@@ -44,8 +43,8 @@ pub fn insert_later<K: Ord + Drop, V: Drop, S: StoreMut<K, V>>(
     key: K,
     value: V,
 ) -> Result<(), AllocError>
-    ensures { OnOk result ((first : K × V) (rest : List (K × V)) → map.old.pairs ≡ first ∷ rest
-        → K.cmp first.0 key ≡ Less → map.new.pairs ≡ first ∷ put K.cmp rest key value) }
+    ensures { OnOk result ((first : K × V) (rest : List (K × V)) → map.old.entries ≡ first ∷ rest
+        → K.cmp first.0 key ≡ Less → map.new.entries ≡ first ∷ put K.cmp rest key value) }
 {
     map.insert(key, value)?;
     Ok(())

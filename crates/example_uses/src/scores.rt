@@ -1,9 +1,7 @@
 //! Scores by name: the first calls that a user makes.
-ghost use Rattle.std.specs.Prelude.{◌≡◌, ◌+◌, ◌++◌, Some, OnOk, OnErr, map, min, string_bytes};
-ghost use Rattle.std.specs.String.{string_cmp};
-ghost use Rattle.litemap_store.specs.Last.{Last};
-ghost use Rattle.litemap_store.specs.Pairs.{index_of, value_at};
-ghost use Rattle.litemap_store.specs.Queries.{by_string};
+ghost use Rattle.std.specs.Prelude.{◌≡◌, ◌+◌, ◌++◌};
+ghost use Rattle.litemap.specs.Words.{IsUnchanged, OnErr, OnOk, Some, get_by_text, string_bytes};
+ghost use Rattle.litemap.specs.Words.{Last, by_string, index_of, map, min, string_cmp};
 
 use litemap::VecMap;
 use std::alloc::{AllocError, Global};
@@ -13,8 +11,8 @@ pub type Scores = VecMap<String, u32>;
 
 /// Sets a score, which a lookup of the name then finds. On error the map is unchanged.
 pub fn set(scores: &mut Scores, name: String, score: u32) -> Result<(), AllocError>
-    ensures there { OnOk result (value_at by_string scores.new.pairs (string_bytes name) ≡ Some score) }
-    ensures unchanged { OnErr result (scores.new.pairs ≡ scores.old.pairs) }
+    ensures there { OnOk result (get_by_text scores.new (string_bytes name) ≡ Some score) }
+    ensures unchanged { OnErr result (IsUnchanged scores.old scores.new) }
 {
     scores.insert(name, score)?;
     Ok(())
@@ -22,14 +20,14 @@ pub fn set(scores: &mut Scores, name: String, score: u32) -> Result<(), AllocErr
 
 /// The score at a name.
 pub fn score_of(scores: &Scores, name: &str) -> Option<u32>
-    ensures { result ≡ value_at by_string scores.now.pairs name.now }
+    ensures { result ≡ get_by_text scores.now name.now }
 {
     scores.get(name).copied()
 }
 
 /// The index of a name among the sorted names, or in `Err` the index at which it would go.
 pub fn place_of(scores: &Scores, name: &str) -> Result<usize, usize>
-    ensures { result ≡ index_of by_string scores.now.pairs name.now }
+    ensures { result ≡ index_of by_string scores.now.entries name.now }
 {
     scores.find_index(name)
 }
@@ -40,8 +38,8 @@ pub fn set_all(
     alloc: Global,
     more: Vec<(String, u32)>,
 ) -> Result<(), AllocError>
-    ensures last { OnOk result (Last string_cmp (scores.old.pairs ++ more.items) scores.new.pairs) }
-    ensures unchanged { OnErr result (scores.new.pairs ≡ scores.old.pairs) }
+    ensures last { OnOk result (Last string_cmp (scores.old.entries ++ more.items) scores.new.entries) }
+    ensures unchanged { OnErr result (IsUnchanged scores.old scores.new) }
 {
     scores.extend_from_vec(alloc, more)?;
     Ok(())
@@ -49,7 +47,7 @@ pub fn set_all(
 
 /// Raises all scores by this much, or to the greatest number.
 pub fn raise(scores: &mut Scores, by: u32)
-    ensures { scores.new.pairs ≡ map (λ p. (p.0, min (p.1 + by) 4294967295)) scores.old.pairs }
+    ensures { scores.new.entries ≡ map (λ p. (p.0, min (p.1 + by) 4294967295)) scores.old.entries }
 {
     scores.update(|_, score| *score = score.saturating_add(by));
 }

@@ -3,11 +3,14 @@
 
 ghost use Rattle.std.specs.Prelude.{◌≡◌};
 
+use crate::arenas::{self, Bounded, Cache};
 use crate::bag::Bag;
 use crate::calendar::{self, Calendar};
+use crate::closures::{self, Access, Zone};
 use crate::collection::{self, Config};
 use crate::counting::{self, Names};
 use crate::headers::{self, Borrowed, Headers};
+use crate::levels::Levels;
 use crate::made::value_or_made;
 use crate::message::{Field, read_headers};
 use crate::names::route;
@@ -16,14 +19,16 @@ use crate::people::{self, Person, kept_for};
 use crate::sets::{self, Set};
 use crate::shelves::{self, Shelf, Stock};
 use crate::stores::{moved, total};
-use crate::sums::{self, Named, Vector};
+use crate::sums::{self, Balances, Named, Vector};
 use crate::texts::{self, ByteNumbers, Numbers};
 use crate::words::{self, Counts};
-use crate::{config, keywords, parts, reserved, scores, trees};
+use crate::{config, keywords, parts, reserved, scores, trees, visits};
+use bumpalo::Bump;
+use linked_list_allocator::LocalHeap;
 use litemap::{LiteMap, TryFault, VecMap};
 use litemap_columns::ColumnMap;
 use litemap_set::VecSet;
-use std::alloc::{AllocError, Global};
+use std::alloc::{AllocError, Allocator, Global};
 use std::io;
 
 pub(crate) fn show(rt: &impl Print, alloc: Global) -> anyhow::Result<()> {
@@ -47,19 +52,29 @@ pub(crate) fn show(rt: &impl Print, alloc: Global) -> anyhow::Result<()> {
     show_made(rt, alloc)?;
     show_sets(rt, alloc)?;
     show_sums(rt, alloc)?;
+    show_balances(rt, alloc)?;
+    show_levels(rt, alloc)?;
     show_totals(rt, alloc, 98)?;
     show_totals(rt, alloc, u32::MAX)?;
     show_counts(rt, alloc)?;
     show_words(rt, alloc)?;
     show_bag(rt, alloc)?;
     show_trees(rt, alloc)?;
+    show_visits(rt, alloc)?;
     show_parts(rt, alloc)?;
     show_counted(rt, alloc)?;
     show_calendar(rt, alloc)?;
     show_config(rt, alloc)?;
     show_collected(rt, alloc)?;
     show_noted(rt, alloc)?;
-    Ok(show_keywords(rt, alloc)?)
+    show_closures(rt, alloc)?;
+    show_lists(rt, alloc)?;
+    show_keywords(rt, alloc)?;
+    show_arena(rt, alloc)?;
+    for size in [0, 64, 256, 1_024] {
+        show_heap(rt, alloc, size)?;
+    }
+    Ok(())
 }
 
 // Pairs whose names are copied.
@@ -359,6 +374,35 @@ fn show_sums(rt: &impl Print, alloc: Global) -> io::Result<()> {
     println!(rt; "vector {vector:?}")
 }
 
+// Balances that are set, corrected and closed.
+fn show_balances(rt: &impl Print, alloc: Global) -> io::Result<()> {
+    let mut balances = Balances::new_vec(alloc);
+    for (account, balance) in [(1, -7), (2, 5), (1, -4)] {
+        let old = sums::set_balance(&mut balances, account, balance)?;
+        println!(rt; "{account} set to {balance} from {old:?}")?;
+    }
+    for account in [2, 3] {
+        let corrected = sums::correct(&mut balances, account, 9);
+        let closed = sums::close(&mut balances, account);
+        println!(rt; "{account} corrected from {corrected:?}, closed at {closed:?}")?;
+    }
+    println!(rt; "left {balances:?}")
+}
+
+// Amounts at prices that are set, added, lowered and taken away.
+fn show_levels(rt: &impl Print, alloc: Global) -> io::Result<()> {
+    let mut levels = Levels::new(alloc);
+    levels.set(99, 5)?;
+    levels.add(99, 3)?;
+    let lowered = [
+        levels.lower(99, 6),
+        levels.lower(99, 2),
+        levels.lower(98, 0),
+    ];
+    let cancelled = [levels.cancel(99), levels.cancel(99)];
+    println!(rt; "amounts lowered {lowered:?}, cancelled {cancelled:?}")
+}
+
 // The totals of a map of two pairs, over a vector, a slice of it, and two columns that it moves to.
 fn show_totals(rt: &impl Print, alloc: Global, last: u32) -> io::Result<()> {
     let map: VecMap<u8, u32> = LiteMap::from_iter(alloc, [(1, 97), (2, last)])?;
@@ -446,6 +490,17 @@ fn show_trees(rt: &impl Print, alloc: Global) -> io::Result<()> {
     let (two, three) = (trees::its_key(&map, 2), trees::its_key(&map, 3));
     let words = trees::words(alloc)?;
     println!(rt; "grown {grown:?}, keys {keys:?}, then {two:?}, {three:?}, {words:?}")
+}
+
+fn show_visits(rt: &impl Print, alloc: Global) -> io::Result<()> {
+    let mut pages = VecMap::new(alloc);
+    visits::record(&mut pages, 7, 10)?;
+    visits::record(&mut pages, 5, 11)?;
+    visits::record(&mut pages, 7, 12)?;
+    let there = [5, 6].map(|page| visits::is_visited(&pages, page));
+    let times = [visits::number_of(&pages, &7), visits::number_of(&pages, &6)];
+    let forgotten = (visits::forget(&mut pages, 7), visits::forget(&mut pages, 7));
+    println!(rt; "visited {there:?}, at {times:?}, forgotten {forgotten:?}, left {pages:?}")
 }
 
 fn show_calendar(rt: &impl Print, alloc: Global) -> io::Result<()> {
@@ -537,6 +592,35 @@ fn show_noted(rt: &impl Print, alloc: Global) -> io::Result<()> {
     Ok(())
 }
 
+// Ages that were above a bound a year ago, which are lowered, and then doubled.
+fn show_closures(rt: &impl Print, alloc: Global) -> io::Result<()> {
+    let mut ages = Ages::from_array(alloc, [(1, 0), (2, 20), (3, 22), (4, 90)])?;
+    closures::drop_zero(&mut ages);
+    closures::keep_above(&mut ages, 20);
+    closures::drop_zero(&mut ages);
+    closures::lower(&mut ages);
+    print!(rt; "lowered {ages:?}, ")?;
+    let number = closures::change_all(&mut ages, |_, age| *age = age.saturating_mul(2));
+    println!(rt; "{number} changed {ages:?}")
+}
+
+// A user that is taken out of all objects, and an address out of all names, of which one has no other.
+fn show_lists(rt: &impl Print, alloc: Global) -> io::Result<()> {
+    let mut access = Access::new_vec(alloc);
+    for (object, users) in [("door", [1].as_slice()), ("gate", &[1, 2])] {
+        access.insert(
+            object.to_string(alloc)?,
+            users.iter().copied().collect(alloc)?,
+        )?;
+    }
+    closures::dismiss(&mut access, 1);
+    let mut zone = Zone::new_vec(alloc);
+    zone.insert("a".to_string(alloc)?, [1, 2, 1].to_vec(alloc)?)?;
+    zone.insert("b".to_string(alloc)?, [1].to_vec(alloc)?)?;
+    closures::withdraw(&mut zone, 1);
+    println!(rt; "access {access:?}, zone {zone:?}")
+}
+
 // The keywords of a locale that has one, to which a key that is there and another one are added.
 fn show_keywords(rt: &impl Print, alloc: Global) -> io::Result<()> {
     let mut keywords = keywords::only(alloc, "nu", "thai");
@@ -544,4 +628,57 @@ fn show_keywords(rt: &impl Print, alloc: Global) -> io::Result<()> {
     keywords::add(&mut keywords, "nu", "latn")?;
     keywords::add(&mut keywords, "ca", "buddhist")?;
     println!(rt; ", then {keywords:?}")
+}
+
+// Names in an arena, which has its memory back at once when they are gone, and calls of a map in it.
+fn show_arena(rt: &impl Print, alloc: Global) -> anyhow::Result<()> {
+    let mut bump = Bump::new(alloc);
+    show_in_arena(rt, &bump)?;
+    let is_reset = bump.reset().is_ok();
+    Ok(println!(rt; "reset {is_reset}")?)
+}
+
+fn show_in_arena(rt: &impl Print, bump: &Bump) -> io::Result<()> {
+    show_named(rt, bump)?;
+    let map = arenas::made_in(bump)?;
+    print!(rt; "made there {map:?}")?;
+    let even = arenas::even_in(bump, map)?;
+    let mut cache = Cache::new(bump);
+    cache.put_all(&[(2, 20), (1, 10), (2, 21)])?;
+    let cached = cache.get(2);
+    println!(rt; ", even {even:?}, cached {cached:?}")
+}
+
+// Numbers by names in any allocator.
+fn show_named<A: Allocator + Copy>(rt: &impl Print, alloc: A) -> io::Result<()> {
+    let mut names = arenas::Names::new_vec(alloc);
+    for (name, number) in [("b", 2), ("a", 1), ("b", 3)] {
+        arenas::set(&mut names, alloc, name, number)?;
+    }
+    let (b, c) = (
+        arenas::number_of(&names, "b"),
+        arenas::number_of(&names, "c"),
+    );
+    println!(rt; "in an arena {names:?}, b and c {:?}", [b, c])
+}
+
+// As many numbers as fit into a heap of so many bytes, and what it has used then and once they are gone.
+fn show_heap(rt: &impl Print, alloc: Global, size: usize) -> io::Result<()> {
+    let heap = LocalHeap::new(alloc, size)?;
+    let mut numbers = Bounded::new_vec(&heap);
+    for key in 0..100u32 {
+        if arenas::add(&mut numbers, key, 7).is_err() {
+            break;
+        }
+    }
+    let (len, last, used) = (
+        numbers.len(),
+        numbers.last().map(|(key, _)| *key),
+        heap.used(),
+    );
+    drop(numbers);
+    println!(rt;
+        "a heap of {size} has room for {len}, the last {last:?}, used {used}, then {}",
+        heap.used()
+    )
 }

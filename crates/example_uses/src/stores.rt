@@ -1,16 +1,16 @@
 //! Functions over a map with any store: its values are added up, and it moves to another kind of store.
-ghost use Rattle.std.specs.Prelude.{◌≡◌, ◌≤◌, ◌^◌, IfOk, MatchOption, sum};
-ghost use Rattle.std.specs.Map.{values_of};
+ghost use Rattle.std.specs.Prelude.{◌≡◌, ◌≤◌, ◌^◌};
+ghost use Rattle.litemap.specs.Words.{IfOk, MatchOption, sum, values};
 
 use litemap::LiteMap;
 use litemap::store::{StoreFromIterable, StoreIntoIterator, StoreIterable};
-use std::alloc::{AllocError, Global};
+use std::alloc::AllocError;
 
 /// The sum of all values, `None` if it is too great for their type.
 pub fn total<'a, K: Ord + 'a, S: StoreIterable<'a, K, u32>>(
     map: &'a LiteMap<K, u32, S>,
 ) -> Option<u32>
-    ensures { MatchOption result (2 ^ 32 ≤ sum (values_of map.now.pairs)) (λ n. n ≡ sum (values_of map.now.pairs)) }
+    ensures { MatchOption result (2 ^ 32 ≤ sum (values map.now)) (λ n. n ≡ sum (values map.now)) }
 {
     let mut total = 0u32;
     for (_key, value) in map {
@@ -21,7 +21,7 @@ pub fn total<'a, K: Ord + 'a, S: StoreIterable<'a, K, u32>>(
 
 /// The same map over another store. If memory runs out, the pairs are dropped.
 pub fn moved<K, V, S, T>(
-    alloc: Global,
+    alloc: T::Alloc,
     map: LiteMap<K, V, S>,
 ) -> Result<LiteMap<K, V, T>, AllocError>
 where
@@ -29,7 +29,7 @@ where
     V: Drop,
     S: StoreIntoIterator<K, V>,
     T: StoreFromIterable<K, V>,
-    ensures { IfOk result (λ moved. moved.pairs ≡ map.pairs) }
+    ensures { IfOk result (λ moved. moved.entries ≡ map.entries) }
 {
     map.keys_ascend();
     Ok(LiteMap::from_iter(alloc, map)?)

@@ -1,15 +1,13 @@
-//! Sparse vectors: numbers at indices, 0 where there is none. And numbers at names.
-ghost use Rattle.std.specs.Prelude.{◌≡◌, ◌+◌, ◌<◌, ◌≤◌, All, IsTrue, OnOk, OnErr, min, sum, unwrap_or};
-ghost use Rattle.std.specs.Bool.{IsFalse};
-ghost use Rattle.std.specs.Map.{values_of};
-ghost use Rattle.litemap_store.specs.Pairs.{at, value_at};
-ghost use Rattle.litemap_store.specs.Queries.{by_string};
-ghost use Rattle.litemap.specs.Combined.{found_with};
+//! Sparse vectors: numbers at indices, 0 where there is none. Numbers at names, and balances, which are signed.
+ghost use Rattle.std.specs.Prelude.{◌≡◌, ◌+◌, ◌+ℤ◌, ◌<◌, ◌≤◌, bytes_eq, if◌then◌else◌, pos, sum_by};
+ghost use Rattle.litemap.specs.Words.{All, IfOk, IfSome, IsFalse, IsTrue, IsUnchanged, OnErr, OnOk, at, by_string, found_with};
+ghost use Rattle.litemap.specs.Words.{get_by_text, int_sum, min, put, string_bytes, string_cmp, sum, unwrap_or, values};
 ghost use Rattle.example_uses.specs.Vectors.{number_at};
 
-use litemap::VecMap;
 use litemap::store::NoRoom;
+use litemap::{LiteMap, VecMap};
 use std::alloc::{AllocError, Global};
+use std::mem;
 
 /// Numbers by their indices.
 pub type Vector = VecMap<u32, u64>;
@@ -17,10 +15,10 @@ pub type Vector = VecMap<u32, u64>;
 /// Adds another vector. If memory runs out, the sum is as it was, and the other one comes back, with the sums at the indices that
 /// both have.
 pub fn add(sum: &mut Vector, alloc: Global, other: Vector) -> Result<(), NoRoom<Vector>>
-    requires { (i : _) → number_at sum.old.pairs i + number_at other.pairs i ≤ u64.MAX }
+    requires { (i : _) → number_at sum.old i + number_at other i ≤ u64.MAX }
     ensures added { OnOk result ((i : _) →
-        number_at sum.new.pairs i ≡ number_at sum.old.pairs i + number_at other.pairs i) }
-    ensures unchanged { OnErr result (sum.new.pairs ≡ sum.old.pairs) }
+        number_at sum.new i ≡ number_at sum.old i + number_at other i) }
+    ensures unchanged { OnErr result (IsUnchanged sum.old sum.new) }
 {
     sum.extend_with(
         alloc,
@@ -38,7 +36,7 @@ pub fn add(sum: &mut Vector, alloc: Global, other: Vector) -> Result<(), NoRoom<
 #[tactic(auto, using(litemap_store::proofs::Callers::Every::every_pair))]
 pub fn set(vector: &mut Vector, index: u32, number: u64) -> Result<(), AllocError>
     requires { 0 < number }
-    ensures { OnOk result (All (λ p. 0 < p.1) vector.old.pairs → All (λ p. 0 < p.1) vector.new.pairs) }
+    ensures { OnOk result (All (λ p. 0 < p.1) vector.old.entries → All (λ p. 0 < p.1) vector.new.entries) }
 {
     vector.insert(index, number)?;
     Ok(())
@@ -49,7 +47,7 @@ pub type Named = VecMap<String, u64>;
 
 /// Removes the number at a name. The sum of all is less by that.
 pub fn settle(named: &mut Named, name: &str) -> Option<u64>
-    ensures { sum (values_of named.new.pairs) + unwrap_or result 0 ≡ sum (values_of named.old.pairs) }
+    ensures { sum (values named.new) + unwrap_or result 0 ≡ sum (values named.old) }
 {
     named.remove(name)
 }
@@ -58,8 +56,8 @@ pub fn settle(named: &mut Named, name: &str) -> Option<u64>
 // By fewer lemmas, among them that the value that is there, written again, changes nothing.
 #[tactic(auto, using(litemap::proofs::Texts::texts, litemap::proofs::Sums::sums))]
 pub fn take_from(named: &mut Named, name: &str, number: u64) -> bool
-    ensures taken { IsTrue result → sum (values_of named.new.pairs) + number ≡ sum (values_of named.old.pairs) }
-    ensures unchanged { IsFalse result → named.new.pairs ≡ named.old.pairs }
+    ensures taken { IsTrue result → sum (values named.new) + number ≡ sum (values named.old) }
+    ensures unchanged { IsFalse result → IsUnchanged named.old named.new }
 {
     let Some(there) = named.get_mut(name) else {
         return false;
@@ -75,10 +73,10 @@ pub fn take_from(named: &mut Named, name: &str, number: u64) -> bool
 // By this lemma alone: with all of the root's set the search doesn't prove `added`.
 #[tactic(auto, using(litemap::proofs::Texts::text_combined))]
 pub fn add_capped(named: &mut Named, alloc: Global, other: Named) -> Result<(), AllocError>
-    ensures added { OnOk result ((name : _) → value_at by_string named.new.pairs name
+    ensures added { OnOk result ((name : _) → get_by_text named.new name
         ≡ found_with (λ _ here new. min (here + new) 18446744073709551615)
-        (value_at by_string named.old.pairs name) (at by_string other.pairs name)) }
-    ensures unchanged { OnErr result (named.new.pairs ≡ named.old.pairs) }
+        (get_by_text named.old name) (at by_string other.entries name)) }
+    ensures unchanged { OnErr result (IsUnchanged named.old named.new) }
 {
     named.extend_with(
         alloc,
@@ -86,4 +84,61 @@ pub fn add_capped(named: &mut Named, alloc: Global, other: Named) -> Result<(), 
         |_, here, new| *new = here.saturating_add(*new),
     )?;
     Ok(())
+}
+
+/// The sum of the numbers at each name.
+#[tactic(auto, using(litemap::proofs::Loops::text_counts))]
+pub fn totals(alloc: Global, pairs: &[(String, u64)]) -> Result<Named, AllocError>
+    requires { sum_by (λ p. p.1) pairs.now ≤ u64.MAX }
+    ensures { IfOk result (λ totals. (name : _) → unwrap_or (get_by_text totals name) 0
+        ≡ sum_by (λ p. if bytes_eq name (string_bytes p.0) then p.1 else 0) pairs.now) }
+{
+    let mut totals = LiteMap::new_vec(alloc);
+    for (name, number) in pairs {
+        add_to(&mut totals, name.clone()?, *number)?;
+    }
+    Ok(totals)
+}
+
+// Adds to the number at a name, which is 0 if there is none.
+#[tactic(auto)]
+fn add_to(totals: &mut Named, name: String, number: u64) -> Result<(), AllocError>
+    requires { unwrap_or (get_by_text totals.old (string_bytes name)) 0 + number ≤ u64.MAX }
+    ensures { OnOk result (totals.new.entries
+        ≡ put string_cmp totals.old.entries name (unwrap_or (get_by_text totals.old (string_bytes name)) 0 + number)) }
+{
+    *totals.entry(name).or_insert(0)? += number;
+    Ok(())
+}
+
+/// Balances by the numbers of accounts.
+pub type Balances = VecMap<u32, i64>;
+
+/// Sets the balance of an account, and returns what it was. The sum of all changes by the difference.
+#[tactic(auto, using(std::proofs::lemmas::Cmp::nat_cmp_total, litemap::proofs::Sums::signed_sums))]
+pub fn set_balance(
+    balances: &mut Balances,
+    account: u32,
+    balance: i64,
+) -> Result<Option<i64>, AllocError>
+    ensures { IfOk result (λ old. int_sum (values balances.new) +ℤ unwrap_or old (pos 0)
+        ≡ int_sum (values balances.old) +ℤ balance) }
+{
+    Ok(balances.insert(account, balance)?)
+}
+
+/// Closes an account, and returns its balance. The sum of all is less by that.
+#[tactic(auto, using(std::proofs::lemmas::Cmp::nat_cmp_total, litemap::proofs::Sums::signed_sums))]
+pub fn close(balances: &mut Balances, account: u32) -> Option<i64>
+    ensures { int_sum (values balances.new) +ℤ unwrap_or result (pos 0) ≡ int_sum (values balances.old) }
+{
+    balances.remove(&account)
+}
+
+/// Sets the balance of an account that is there, and returns what it was. The sum of all changes by the difference.
+#[tactic(auto, using(std::proofs::lemmas::Cmp::nat_cmp_total, litemap::proofs::Sums::signed_sums))]
+pub fn correct(balances: &mut Balances, account: u32, balance: i64) -> Option<i64>
+    ensures { IfSome result (λ old. int_sum (values balances.new) +ℤ old ≡ int_sum (values balances.old) +ℤ balance) }
+{
+    Some(mem::replace(balances.get_mut(&account)?, balance))
 }

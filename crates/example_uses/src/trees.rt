@@ -1,9 +1,8 @@
 //! Callers with bodies and clauses as for std's `BTreeMap`, most of them its own tests': only the two `use` lines differ from
 //! such code.
-ghost use Rattle.std.specs.Prelude.{◌≡◌, ◌≢◌, ◌+◌, ◌≤◌, ◌==◌, IfOk, IsTrue, MatchResult, None, OnOk, Some, if◌then◌else◌};
-ghost use Rattle.std.specs.Prelude.{codes, count_by, is_some, option_map, unwrap_or};
-ghost use Rattle.std.specs.Ordering.{nat_cmp};
-ghost use Rattle.litemap.specs.Words.{btree_map_len, get, get_by_text, get_key, keys, values};
+ghost use Rattle.std.specs.Prelude.{◌≡◌, ◌≢◌, ◌+◌, ◌≤◌, ◌==◌, if◌then◌else◌};
+ghost use Rattle.litemap.specs.Words.{IfOk, IsTrue, MatchResult, None, OnOk, Some, btree_map_len, codes, count_by, get};
+ghost use Rattle.litemap.specs.Words.{get_by_text, get_key, is_some, keys, nat_cmp, option_map, unwrap_or, values};
 
 use litemap::VecMap as BTreeMap;
 use std::alloc::{AllocError, Global};

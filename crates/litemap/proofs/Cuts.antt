@@ -1,13 +1,14 @@
 -- Lists that a test cuts in two.
 --     before_found, before_missing, after_found, after_missing      the cut before a query and the one after it, from what a search found
---     length-before, take-cut, drop-cut, first_cut, last_cut, between, sub_between, length-between      what is before a cut, after it, and between two
+--     length-before, take-cut, drop-cut, first_cut, last_cut      what is before a cut, and after it
+--     between, sub_between, length-between, outside      what is between two cuts, and the rest
 use Rattle.litemap.proofs.Common.{◌≡◌, ℕ, zero, suc, ◌+◌, ◌-◌, ◌≤◌, Bool, true, false, not, ◌&&◌, cond, List, [], ◌∷◌, ◌++◌}
 use Rattle.litemap.proofs.Common.{length, filter, take, drop, slice_range, nat_le, Some, None, length-drop, length-take, refl}
 use Rattle.litemap.proofs.Common.{sym, ap, ◌∙◌, subst, arith, is_gt, is_le, is_lt, Ordering, Less, Equal, Greater, le-leb}
 use Rattle.litemap.proofs.Common.{AllByRecursion, above, below, greater_from_is_gt, less_from_is_lt}
 use Rattle.std.proofs.lemmas.Bool.{and_right}
 use Rattle.litemap_store.specs.Splits.{IsFoundAt, IsMissingAt}
-use Rattle.litemap_store.proofs.Last.KeepLast.{filter_none}
+use Rattle.litemap_store.proofs.Last.KeepLast.{filter_all, filter_none}
 use Rattle.litemap_store.proofs.Lists.Membership.{In-from_filter, each, from_each}
 use Rattle.litemap.specs.Within.{IsCut}
 
@@ -17,7 +18,7 @@ module _ {X : Type 0} (test : X → Bool) where
   IsCut-zero [] h = refl
   IsCut-zero (x ∷ L) h = h
 
-  IsCut-append : (A B : List X) → AllByRecursion (λ y. test y ≡ true) A → AllByRecursion (λ y. test y ≡ false) B → IsCut test (A ++ B) (length A)
+  pub IsCut-append : (A B : List X) → AllByRecursion (λ y. test y ≡ true) A → AllByRecursion (λ y. test y ≡ false) B → IsCut test (A ++ B) (length A)
   IsCut-append [] B h k = IsCut-zero B k
   IsCut-append (x ∷ A) B h k = (h.0, IsCut-append A B h.1 k)
 
@@ -86,6 +87,18 @@ module _ {X : Type 0} (early late : X → Bool) where
   between (x ∷ L) (suc a) zero zero e p r = sym (none_late (x ∷ L) r)
   between (x ∷ L) (suc a) zero (suc m) e p r = absurd (omega arith)
   between (x ∷ L) (suc a) (suc c) m e p r = rw p.0 (between L a c m (omega arith) p.1 r.1)
+
+  -- the rest
+  pub outside : (L : List X) (a c : ℕ) → a ≤ c → IsCut early L a → IsCut late L c → take a L ++ drop c L ≡ filter (λ x. not (not (early x) && late x)) L
+  outside [] zero zero h p r = refl
+  outside [] zero (suc c) h p r = refl
+  outside [] (suc a) zero h p r = refl
+  outside [] (suc a) (suc c) h p r = refl
+  outside (x ∷ L) zero zero h p r = sym (filter_all (λ x. not (not (early x) && late x)) (x ∷ L)
+      (λ y i. ap not (and_right (not (early y)) (late y) (each (λ z. late z ≡ false) (x ∷ L) r y i))))
+  outside (x ∷ L) zero (suc c) h p r = rw (p.0, r.0) (outside L zero c (omega arith) (IsCut-zero early L p.1) r.1)
+  outside (x ∷ L) (suc a) zero h p r = absurd (omega arith)
+  outside (x ∷ L) (suc a) (suc c) h p r = rw p.0 (ap (λ M. x ∷ M) (outside L a c (omega arith) p.1 r.1))
 
   pub length-between : (L : List X) (a c : ℕ) → IsCut early L a → IsCut late L c → length (filter (λ x. not (early x) && late x) L) ≡ c - a
   length-between L a c p r = omega (arith, ap length (between L a c (c - a) refl p r), length-take (c - a) (drop a L), length-drop a L, within-cut late L c r)

@@ -77,18 +77,18 @@ module _ {K V : Type 0} (cmp : K → K → Ordering) (L : List (K × V)) (k : K)
 
 module _ {K V S : Type 0} {g : ord.Ghosts K} {g' : eq.Ghosts K} {g'' : partial.Ghosts K} {s : store.Ghosts S K V} where
   -- two entries that differ only in a proof are one
-  pub same_entry : (o : OccupiedEntry K V S g g' g'' s) (v : V) (h : o.index < length (set_value o.map.now.pairs o.index v))
+  pub same_entry : (o : OccupiedEntry K V S g g' g'' s) (v : V) (h : o.index < length (set_value o.map.now.entries o.index v))
       → record { map = record o.map { now = map_with_value o v }; index = o.index; within = h } ≡ with_entry_value o v
   same_entry o v h =
-      ap (λ (x : o.index < length (set_value o.map.now.pairs o.index v)). let e : OccupiedEntry K V S g g' g'' s = record
+      ap (λ (x : o.index < length (set_value o.map.now.entries o.index v)). let e : OccupiedEntry K V S g g' g'' s = record
       { map = record o.map { now = map_with_value o v }; index = o.index; within = x } in e) (le_prop h (still_within o v))
 
   pub written : (o : OccupiedEntry K V S g g' g'' s) (v : V) → IsWritten (Occupied o) v (Occupied (with_entry_value o v))
   written o v = record {
-    value = value_in-set_value o.map.now.pairs o.index v o.within;
-    same_key = key-set_value o.map.now.pairs o.index v;
-    same_writes = λ w. set_value-set_value o.map.now.pairs o.index v w;
-    same_removal = remove-set_value o.map.now.pairs o.index v;
+    value = value_in-set_value o.map.now.entries o.index v o.within;
+    same_key = key-set_value o.map.now.entries o.index v;
+    same_writes = λ w. set_value-set_value o.map.now.entries o.index v w;
+    same_removal = remove-set_value o.map.now.entries o.index v;
     same_map = refl;
     same_room = refl;
   }
@@ -109,7 +109,7 @@ module _ {K V S : Type 0} {g : ord.Ghosts K} {g' : eq.Ghosts K} {g'' : partial.G
     same_removal = w.same_removal;
     same_map = w.same_map;
     leaves = record {
-      pairs = sym (set_value-same o.map.now.pairs o.index v w.value) ∙ w.same_writes v;
+      pairs = sym (set_value-same o.map.now.entries o.index v w.value) ∙ w.same_writes v;
       room = omega (arith, w.same_room);
       room_kept = λ _. w.same_room;
     };

@@ -40,6 +40,9 @@ module _ {F K V : Type 0} (g : Mut F (Bor K × (MutBor V × Unit {0})) (Bool × 
         so_far (cond b ((p.0, w) ∷ M) M) (subst (λ N. KeptWritten g f N (cond b ((p.0, w) ∷ M) M)) (sym (drop_at L i p there))
         (b, f', (p.0, w), called, M, subst (λ N. KeptWritten g f' N M) (moved.after ∙ drop-written L i w) kept, refl))
 
+    pub KeptWritten-after : drop (i + 1) L' ≡ drop (i + 1) L
+    KeptWritten-after = moved.after ∙ drop-written L i w
+
     pub KeptWritten-yes : b ≡ true → SoFar f' L' (k + 1) (i + 1)
     KeptWritten-yes is = λ M kept.
         subst (KeptWritten g f₀ L₀)
@@ -58,7 +61,7 @@ module _ {F K V : Type 0} (g : Mut F (Bor K × (MutBor V × Unit {0})) (Bool × 
       subst (KeptWritten g f₀ L₀) (append-nil (take k L)) (so_far [] (subst (λ N. KeptWritten g f N []) (sym (drop_all i L h)) refl))
 
 module _ {F K V : Type 0} (cmp : K → K → Ordering) (g : Mut F (Bor K × (MutBor V × Unit {0})) (Bool × (MutBor V × Unit {0}))) where
-  each-kept : (k : K) (f : F) (L M : List (K × V)) → KeptWritten g f L M → BelowAll cmp k L → BelowAll cmp k M
+  pub each-kept : (k : K) (f : F) (L M : List (K × V)) → KeptWritten g f L M → BelowAll cmp k L → BelowAll cmp k M
   each-kept k f [] M h a = subst (BelowAll cmp k) (sym h) tt
   each-kept k f (p ∷ L) M (b, f', q, c, N, h, is) a =
       (elim b as (λ x. M ≡ cond x (q ∷ N) N → BelowAll cmp k M) [

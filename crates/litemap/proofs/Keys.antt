@@ -4,9 +4,10 @@
 -- `#[tactic(auto, using(litemap::proofs::Keys::number_keys))]`.
 --     keys      for any key;  number_keys, signed_keys, string_keys      with the law of unsigned numbers and `char`, of signed numbers, of strings
 --     key_lists      what is found in a map of a list, and after more pairs; that an ascending list is the map's
-use Rattle.litemap.proofs.Common.{◌≡◌, ◌≢◌, ◌∷◌, ◌++◌, ℕ, ℤ, List, Some, None, IsSome, IsTotalOrder, Ordering, Equal}
-use Rattle.litemap.proofs.Common.{Merge, Rising, above, ap, at, below, cond, cut, int_cmp, int_cmp_total, is_some}
-use Rattle.litemap.proofs.Common.{key_alike, key_same, left, nat_cmp, nat_cmp_total, option_map, option_or, put, reverse}
+--     write_same, none_above      by any query: the value that is there, written again; nothing is found above an equal key
+use Rattle.litemap.proofs.Common.{◌≡◌, ◌≢◌, ◌∙◌, ◌∷◌, ◌++◌, [], ℕ, ℤ, List, Option, Some, None, IsSome, IsTotalOrder, Ordering, Equal, Less}
+use Rattle.litemap.proofs.Common.{BelowAll, Merge, Rising, above, ap, at, below, cond, cut, int_cmp, int_cmp_total, is_some}
+use Rattle.litemap.proofs.Common.{key_alike, key_same, left, nat_cmp, nat_cmp_total, option_map, option_map_or, option_or, put, refl, reverse, sym}
 use Rattle.litemap.proofs.Common.{slice_get, slice_set, value_at, value_at-cut, value_at-cut_other, value_at-left, value_at-merged}
 use Rattle.litemap.proofs.Common.{value_at-put, value_at-put_other, value_at-set, value_at-write}
 use Rattle.litemap.proofs.Common.{value_at-written_apart, value_in-set, write}
@@ -16,7 +17,31 @@ use Rattle.std.specs.String.{string_cmp_total}
 use Rattle.litemap_store.specs.Last.{Last}
 use Rattle.litemap_store.proofs.Callers.LastLookups.{value_at-last, value_at-last_of_more, value_at-last_of_rising}
 use Rattle.litemap_store.proofs.Last.Pairs.{Last-rising, Last-unique}
+use Rattle.litemap_store.proofs.Names.{cons_option}
+use Rattle.litemap_store.proofs.Search.Splitting.{not_is_eq, parted}
+use Rattle.litemap_store.specs.Queries.{OneSide, key_one_side}
 use Rattle.litemap.proofs.Ends.{at-index}
+use Rattle.litemap.proofs.KeptKeys.{remove_key_number}
+
+module _ {K Q V : Type 0} {cmp : K → K → Ordering} {order : K → Q → Ordering} where
+  pub write_same : OneSide cmp order → (L : List (K × V)) (q : Q) → Rising cmp L → (v : V) → value_at order L q ≡ Some v → write order L q v ≡ L
+  write_same one L q r v e = by (at order L q) refl
+    where
+      by : (a : Option (K × V)) → at order L q ≡ a → option_map_or (λ p. below order L q ++ (p.0, v) ∷ above order L q) (at order L q) L ≡ L
+      by None f = rw f refl
+      by (Some p) f =
+          let g : Some p.1 ≡ Some v = sym (ap (option_map (λ x. x.1)) f) ∙ e in
+          let h : p.1 ≡ v = cc in
+          rw f (ap (λ w. below order L q ++ (p.0, w) ∷ above order L q) (sym h)
+          ∙ ap (λ o. below order L q ++ cons_option o (above order L q)) (sym f) ∙ sym (parted one L q r))
+
+pub none_above : {K Q V : Type 0} {cmp : K → K → Ordering} (order : K → Q → Ordering) (q : Q)
+    → ((x y : K) → order x q ≡ Equal → order y q ≡ Equal → cmp x y ≡ Equal) → (k : K) (N : List (K × V)) → BelowAll cmp k N
+    → order k q ≡ Equal → value_at order N q ≡ None
+none_above order q same k [] b e = refl
+none_above {cmp = cmp} order q same k (y ∷ N) b e =
+    rw (not_is_eq (order y.0 q) (λ f. let s : cmp k y.0 ≡ Equal = same k y.0 e f in let l : cmp k y.0 ≡ Less = b.0 in absurd (cc)))
+    (none_above order q same k N b.1 e)
 
 module _ {K V : Type 0} {cmp : K → K → Ordering} where
   pub key_put_found : (L : List (K × V)) (k : K) (v : V) → IsTotalOrder cmp → value_at cmp (put cmp L k v) k ≡ Some v
@@ -27,6 +52,9 @@ module _ {K V : Type 0} {cmp : K → K → Ordering} where
 
   pub key_write_found : (L : List (K × V)) (k : K) (v : V) → IsTotalOrder cmp → IsSome (at cmp L k) → value_at cmp (write cmp L k v) k ≡ Some v
   key_write_found L k v o there = value_at-write cmp k L v there
+
+  pub key_write_same : (L : List (K × V)) (k : K) (v : V) → IsTotalOrder cmp → Rising cmp L → value_at cmp L k ≡ Some v → write cmp L k v ≡ L
+  key_write_same L k v o r e = write_same (key_one_side o) L k r v e
 
   -- what a write leaves if it finds the key
   pub key_written_others : (L : List (K × V)) (k q : K) (p : K × V) (v : V) → IsTotalOrder cmp → at cmp L k ≡ Some p → cmp q k ≢ Equal
@@ -52,6 +80,10 @@ module _ {K V : Type 0} {cmp : K → K → Ordering} where
 
   pub key_index_found : (L : List (K × V)) (i : ℕ) (k : K) (v : V) → IsTotalOrder cmp → Rising cmp L → slice_get L i ≡ Some (k, v) → value_at cmp L k ≡ Some v
   key_index_found L i k v o r g = ap (option_map (λ p. p.1)) (at-index cmp o cmp k (key_same o k) (key_alike o k) L i (k, v) r g (tied_itself o k))
+
+  -- the first key finds none of the pairs after it
+  pub key_first_only : (L : List (K × V)) (k : K) → IsTotalOrder cmp → BelowAll cmp k L → value_at cmp L k ≡ None
+  key_first_only L k o b = none_above cmp k (key_same o k) k L b (tied_itself o k)
 
   -- ---- maps of lists
   pub key_list_last : (J M : List (K × V)) (k : K) → IsTotalOrder cmp → Last cmp J M → value_at cmp M k ≡ value_at cmp (reverse J) k
@@ -86,10 +118,11 @@ pub ruleset keys = (
   key_merged,
   key_left,
   key_index_found,
+  key_write_same,
   value_in-set,
 )
 
-pub ruleset number_keys = (keys, nat_cmp_total, unsigned_apart)
+pub ruleset number_keys = (keys, nat_cmp_total, unsigned_apart, remove_key_number)
 
 pub ruleset signed_keys = (keys, int_cmp_total, signed_apart)
 

@@ -1,15 +1,20 @@
 -- Lemmas of the proofs.
 pub mod All
 pub mod Bounded
+pub mod Callable
 pub mod Collecting
 pub mod Combining
 pub mod Common
 pub mod Conversions
 pub mod Ends
 pub mod Entries
+pub mod Hashed
 pub mod Keys
+pub mod KeptKeys
 pub mod KeptWriting
+pub mod Leaving
 pub mod Lending
+pub mod Loops
 pub mod MergedTests
 pub mod Nearest
 pub mod Outcomes

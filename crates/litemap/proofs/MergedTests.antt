@@ -77,7 +77,7 @@ module _ {K V : Type 0} (cmp : K → K → Ordering) (o : IsTotalOrder cmp) wher
   }
 
   pub displaced_by : {E : Type 0} (A B : List (K × V)) (r : Result (Option (Contents K V)) E)
-      → IfOk r (λ rest. IfSome rest (λ s. s.pairs ≡ left cmp A B)) → IfOk r (λ rest. IfSome rest (λ s. Displaces cmp A B s.pairs))
+      → IfOk r (λ rest. IfSome rest (λ s. s.entries ≡ left cmp A B)) → IfOk r (λ rest. IfSome rest (λ s. Displaces cmp A B s.entries))
   displaced_by A B (Ok (Some s)) e = subst (λ L. Displaces cmp A B L) (sym e) (displaces A B)
   displaced_by A B (Ok None) e = e
   displaced_by A B (Err x) e = e

@@ -12,14 +12,14 @@ same_value {V} v w e = ap (λ (o : Option V). unwrap_or o v) e
 module _ {F K V E : Type 0} (g : Once F (Bor K × Unit {0}) (Result V E)) (f : F) (cmp : K → K → Ordering) (key : K) (old n : Contents K V) where
   -- what `try_find_or_insert` ensures of its result r, and of the map n that it leaves
   pub record Found (r : Result ℕ (TryFault K V E)) : Type 0 where
-    pub place : IfOk r (λ i. i ≡ place cmp old.pairs key)
-    pub within : IfOk r (λ i. i < length n.pairs)
-    pub there : IfOk r (λ i. slice_get n.pairs i ≡ at cmp n.pairs key)
-    pub present : IsSome (at cmp old.pairs key) → IsOk r × (n ≡ old)
-    pub put : IsNone (at cmp old.pairs key) → OnOk r ((v : V) × FnOnceReturnsAt g f key (Ok v) × (n.pairs ≡ put cmp old.pairs key v))
+    pub place : IfOk r (λ i. i ≡ place cmp old.entries key)
+    pub within : IfOk r (λ i. i < length n.entries)
+    pub there : IfOk r (λ i. slice_get n.entries i ≡ at cmp n.entries key)
+    pub present : IsSome (at cmp old.entries key) → IsOk r × (n ≡ old)
+    pub put : IsNone (at cmp old.entries key) → OnOk r ((v : V) × FnOnceReturnsAt g f key (Ok v) × (n.entries ≡ put cmp old.entries key v))
     pub room : old.room ≤ n.room + 1
     pub errors : FailsAs g f key old.room r
-    pub unchanged : OnErr r (n.pairs ≡ old.pairs)
+    pub unchanged : OnErr r (n.entries ≡ old.entries)
     pub unchanged_by_closure : IfClosure r (λ _. n ≡ old)
 
   fails_alike : (e : TryFault K V E) → FailsAs g f key old.room {A = ℕ} (Err e) → FailsAs g f key old.room {A = ℕ × Bor V} (Err e)
@@ -33,35 +33,35 @@ module _ {F K V E : Type 0} (g : Once F (Bor K × Unit {0}) (Result V E)) (f : F
   -- all that `try_get_or_insert` ensures
   pub record Told (t : Result (ℕ × Bor V) (TryFault K V E)) : Type 0 where
     pub leaves : IsInsertedAt g f cmp key old t n
-    pub place : IfOk t (λ there. there.0 ≡ place cmp old.pairs key)
-    pub present : IsSome (at cmp old.pairs key) → IsOk t
-    pub within : IsSome (at cmp old.pairs key) → IfOk t (λ there. there.0 < length old.pairs)
-    pub value : IsSome (at cmp old.pairs key) → IfOk t (λ there. Some there.1.now ≡ value_at cmp old.pairs key)
-    pub answered : IsNone (at cmp old.pairs key) → IfOk t (λ there. FnOnceReturnsAt g f key (Ok there.1.now))
+    pub place : IfOk t (λ there. there.0 ≡ place cmp old.entries key)
+    pub present : IsSome (at cmp old.entries key) → IsOk t
+    pub within : IsSome (at cmp old.entries key) → IfOk t (λ there. there.0 < length old.entries)
+    pub value : IsSome (at cmp old.entries key) → IfOk t (λ there. Some there.1.now ≡ value_at cmp old.entries key)
+    pub answered : IsNone (at cmp old.entries key) → IfOk t (λ there. FnOnceReturnsAt g f key (Ok there.1.now))
     pub errors : FailsAs g f key old.room t
 
-  pub told : (r : Result ℕ (TryFault K V E)) → Found r → (t : Result (ℕ × Bor V) (TryFault K V E)) → Shown n.pairs r t → Told t
+  pub told : (r : Result ℕ (TryFault K V E)) → Found r → (t : Result (ℕ × Bor V) (TryFault K V E)) → Shown n.entries r t → Told t
   told r found (Ok there) shown =
       let is = shown.0 in
-      let place-is = subst (λ s. IfOk s (λ i. i ≡ place cmp old.pairs key)) is found.place in
-      let made : IsNone (at cmp old.pairs key) → (v : V) × FnOnceReturnsAt g f key (Ok v) × (n.pairs ≡ put cmp old.pairs key v) =
-      λ none. subst (λ s. OnOk s ((v : V) × FnOnceReturnsAt g f key (Ok v) × (n.pairs ≡ put cmp old.pairs key v))) is (found.put none) in
-      let same : (none : IsNone (at cmp old.pairs key)) → (made none).0 ≡ there.1.now =
+      let place-is = subst (λ s. IfOk s (λ i. i ≡ place cmp old.entries key)) is found.place in
+      let made : IsNone (at cmp old.entries key) → (v : V) × FnOnceReturnsAt g f key (Ok v) × (n.entries ≡ put cmp old.entries key v) =
+      λ none. subst (λ s. OnOk s ((v : V) × FnOnceReturnsAt g f key (Ok v) × (n.entries ≡ put cmp old.entries key v))) is (found.put none) in
+      let same : (none : IsNone (at cmp old.entries key)) → (made none).0 ≡ there.1.now =
       λ none. same_value (made none).0 there.1.now
-      (sym (put_value cmp old.pairs key (made none).0) ∙ ap (value_in _) (sym place-is) ∙ ap (λ L. value_in L there.0) (sym (made none).2) ∙ shown.1) in
+      (sym (put_value cmp old.entries key (made none).0) ∙ ap (value_in _) (sym place-is) ∙ ap (λ L. value_in L there.0) (sym (made none).2) ∙ shown.1) in
       record {
         leaves = record {
           present = λ some. (found.present some).1;
-          put = λ none. (made none).2 ∙ ap (put cmp old.pairs key) (same none);
+          put = λ none. (made none).2 ∙ ap (put cmp old.entries key) (same none);
           room = found.room;
           unchanged = tt;
           unchanged_by_closure = tt;
         };
         place = place-is;
         present = λ some. refl;
-        within = λ some. subst (λ m. there.0 < length m.pairs) (found.present some).1 (subst (λ s. IfOk s (λ i. i < length n.pairs)) is found.within);
-        value = λ some. sym shown.1 ∙ ap (option_map (λ p. p.1)) (subst (λ s. IfOk s (λ i. slice_get n.pairs i ≡ at cmp n.pairs key)) is found.there)
-            ∙ ap (λ m. value_at cmp m.pairs key) (found.present some).1;
+        within = λ some. subst (λ m. there.0 < length m.entries) (found.present some).1 (subst (λ s. IfOk s (λ i. i < length n.entries)) is found.within);
+        value = λ some. sym shown.1 ∙ ap (option_map (λ p. p.1)) (subst (λ s. IfOk s (λ i. slice_get n.entries i ≡ at cmp n.entries key)) is found.there)
+            ∙ ap (λ m. value_at cmp m.entries key) (found.present some).1;
         answered = λ none. subst (λ v. FnOnceReturnsAt g f key (Ok v)) (same none) (made none).1;
         errors = record { closure = tt; full = tt; back = tt };
       }
@@ -71,7 +71,7 @@ module _ {F K V E : Type 0} (g : Once F (Bor K × Unit {0}) (Result V E)) (f : F
           present = λ some. (found.present some).1;
           put = λ none. tt;
           room = found.room;
-          unchanged = subst (λ s. OnErr s (n.pairs ≡ old.pairs)) shown found.unchanged;
+          unchanged = subst (λ s. OnErr s (n.entries ≡ old.entries)) shown found.unchanged;
           unchanged_by_closure = still_unmoved e (subst (λ s. IfClosure s (λ _. n ≡ old)) shown found.unchanged_by_closure);
         };
         place = tt;

@@ -176,7 +176,7 @@ module _ {K V : Type 0} {cmp : K → K → Ordering} (o : IsTotalOrder cmp) (L :
   found_there i (Some q) e = at-index cmp o cmp q.0.now (key_same o q.0.now) (key_alike o q.0.now) L i (deref_pair q) r (sym e) (tied_itself o q.0.now)
 
   -- each pair is what its key finds, and so are those that a filter keeps
-  each_found : (p : K × V) → In p L → at cmp L p.0 ≡ Some p
+  pub each_found : (p : K × V) → In p L → at cmp L p.0 ≡ Some p
   each_found p i = at-rising cmp o cmp p.0 (key_same o p.0) (key_alike o p.0) L p r i (tied_itself o p.0)
 
   pub all_found : All (λ p. at cmp L p.0 ≡ Some p) L
@@ -292,6 +292,7 @@ module _ {F K V : Type 0} (g : Mut F (Bor K × (MutBor V × Unit {0})) (Unit {0}
 pub leaves_of : {F K V : Type 0} (g : Mut F (Bor K × (MutBor V × Unit {0})) (Unit {0} × (MutBor V × Unit {0}))) (f : F) (L L' M : List (K × V))
     → Written g f L M → L ≡ L' → LeavesOf g f L' M
 leaves_of g f L L' M w is = record {
+  written = subst (λ N. Written g f N M) is w;
   found = λ test h alike a. written-found g test alike h L M f a w ∙ ap (λ N. option_map h (option_map (λ p. p.1) (find test N))) is;
   stays = λ test alike a. written-stays g test alike L M f a w ∙ ap (find test) is;
 }

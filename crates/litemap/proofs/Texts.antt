@@ -13,19 +13,21 @@ use Rattle.litemap.proofs.Common.{Rising, nat_list_cmp_total, on_texts, option_o
 use Rattle.litemap.proofs.Common.{below, cut, key_or, put, value_at, write, value_at-cut}
 use Rattle.litemap.proofs.Common.{value_at-put, value_at-write, value_at-write_apart, value_in-set}
 use Rattle.litemap.proofs.Common.{value_at-between_apart, value_at-cut_apart, value_at-set}
-use Rattle.litemap.proofs.Common.{key_alike, key_same, value_at-left, value_at-merged, key_or_equal}
+use Rattle.litemap.proofs.Common.{Bool, true, false, inl, inr, key_alike, key_same, value_at-left, value_at-merged, key_or_equal}
+use Rattle.std.proofs.Common.{◌⊎◌}
 use Rattle.std.proofs.lemmas.Cmp.{tied_itself}
 use Rattle.std.proofs.lemmas.Map.Lookups.{exact_bytes}
+use Rattle.std.proofs.lemmas.Map.Text.{is_eq-slice_cmp}
+use Rattle.std.specs.Cmp.Lexicographic.{bytes_decides, nat_list_eq_equiv}
+use Rattle.std.specs.Str.{bytes_eq}
 use Rattle.std.specs.String.{string_cmp_total}
-use Rattle.std.specs.Option.{option_map_or}
 use Rattle.litemap_store.specs.Last.{Last}
 use Rattle.litemap_store.proofs.Callers.LastLookups.{value_at-last, value_at-last_of_more, value_at-last_of_rising}
 use Rattle.litemap_store.specs.Queries.{OneSide, by_slice, by_string, key_one_side}
-use Rattle.litemap_store.proofs.Names.{cons_option}
-use Rattle.litemap_store.proofs.Search.Splitting.{parted}
 use Rattle.litemap.specs.ByBytes.{by_bytes}
 use Rattle.litemap.specs.Combined.{combined, found_with}
 use Rattle.litemap.proofs.Combining.{value_at-combined}
+use Rattle.litemap.proofs.Keys.{write_same}
 
 -- the law of their order
 pub by_bytes_total : IsTotalOrder by_bytes
@@ -50,19 +52,6 @@ module _ {K : Type 0} (bytes : K → List ℕ) where
 
   cut_others : {V : Type 0} (L : List (K × V)) (t u : List ℕ) → u ≢ t → value_at by (cut by L t) u ≡ value_at by L u
   cut_others L t u n = value_at-cut_apart by t by u (slice_cmp nat_cmp u t) (differs t u n) (turned t u) L
-
--- ---- the value that is there, written again
-module _ {K Q V : Type 0} {cmp : K → K → Ordering} {order : K → Q → Ordering} (one : OneSide cmp order) (L : List (K × V)) (q : Q) (r : Rising cmp L) where
-  write_same : (v : V) → value_at order L q ≡ Some v → write order L q v ≡ L
-  write_same v e = by (at order L q) refl
-    where
-      by : (a : Option (K × V)) → at order L q ≡ a → option_map_or (λ p. below order L q ++ (p.0, v) ∷ above order L q) (at order L q) L ≡ L
-      by None f = rw f refl
-      by (Some p) f =
-          let g : Some p.1 ≡ Some v = sym (ap (option_map (λ x. x.1)) f) ∙ e in
-          let h : p.1 ≡ v = cc in
-          rw f (ap (λ w. below order L q ++ (p.0, w) ∷ above order L q) (sym h)
-          ∙ ap (λ o. below order L q ++ cons_option o (above order L q)) (sym f) ∙ sym (parted one L q r))
 
 pub text_one_side : {Z : Type 0} → OneSide (string_cmp {Z = Z}) by_string
 text_one_side t x y = key_one_side nat_list_cmp_total t (string_bytes x) (string_bytes y)
@@ -103,6 +92,29 @@ module _ {V Z : Type 0} where
           (λ s. let t : Less ≡ Equal = sym e ∙ ap (λ w. slice_cmp nat_cmp w (string_bytes k)) s ∙ nat_list_cmp_itself (string_bytes k) in cc)
       by Greater e = text_put_others L k u v
           (λ s. let t : Greater ≡ Equal = sym e ∙ ap (λ w. slice_cmp nat_cmp w (string_bytes k)) s ∙ nat_list_cmp_itself (string_bytes k) in cc)
+
+  -- the same by cases, with the test that std's words have, either way round
+  pub text_put_cases : (L : List (String Z × V)) (k : String Z) (v : V) (u : List ℕ)
+      → (value_at by_string (put string_cmp L k v) u ≡ value_at by_string (put string_cmp L k v) u)
+      × (((bytes_eq u (string_bytes k) ≡ true) × (bytes_eq (string_bytes k) u ≡ true) × (u ≡ string_bytes k)
+      × (value_at by_string (put string_cmp L k v) u ≡ Some v))
+      ⊎ ((bytes_eq u (string_bytes k) ≡ false) × (bytes_eq (string_bytes k) u ≡ false)
+      × (value_at by_string (put string_cmp L k v) u ≡ value_at by_string L u)))
+  text_put_cases L k v u = (refl, by (bytes_eq u (string_bytes k)) refl)
+    where
+      back : bytes_eq (string_bytes k) u ≡ bytes_eq u (string_bytes k)
+      back = sym (nat_list_eq_equiv.symm u (string_bytes k))
+
+      found : value_at by_string (put string_cmp L k v) u ≡ cond (bytes_eq u (string_bytes k)) (Some v) (value_at by_string L u)
+      found = text_put L k u v ∙ ap (λ b. cond b (Some v) (value_at by_string L u)) (is_eq-slice_cmp u (string_bytes k))
+
+      by : (b : Bool) → bytes_eq u (string_bytes k) ≡ b
+          → ((bytes_eq u (string_bytes k) ≡ true) × (bytes_eq (string_bytes k) u ≡ true) × (u ≡ string_bytes k)
+          × (value_at by_string (put string_cmp L k v) u ≡ Some v))
+          ⊎ ((bytes_eq u (string_bytes k) ≡ false) × (bytes_eq (string_bytes k) u ≡ false)
+          × (value_at by_string (put string_cmp L k v) u ≡ value_at by_string L u))
+      by true e = inl (e, back ∙ e, (bytes_decides u (string_bytes k)).0 e, found ∙ ap (λ b. cond b (Some v) (value_at by_string L u)) e)
+      by false e = inr (e, back ∙ e, found ∙ ap (λ b. cond b (Some v) (value_at by_string L u)) e)
 
   pub text_write_found : (L : List (String Z × V)) (t : List ℕ) (v : V) → IsSome (at by_string L t) → value_at by_string (write by_string L t v) t ≡ Some v
   text_write_found L t v there = value_at-write by_string t L v there

@@ -1,11 +1,13 @@
 -- What lookups find after one key has changed: for the clauses `updates`.
---     updates_put, places_put, updates_push      after a put;  finds_cut, places_cut      after a cut;  finds_write      after a write
+--     updates_put, places_put, updates_push, places_push      after a put;  finds_cut, places_cut      after a cut;  finds_write      after a write
+--     updates_set, places_remove      after a write and a removal at an index
 --     keys_stay      what each key finds that a query doesn't;  value_at-part, value_at-no_part      and in a part
 use Rattle.litemap.proofs.Common.{◌≡◌, ◌∙◌, ◌∷◌, ◌++◌, ◌+◌, ℕ, Bool, false, List, Option, None, Some, IsSome, Result, option_map, is_gt, is_lt, [], Ok}
 use Rattle.litemap.proofs.Common.{Err, arith, ap, append-nil, equal_from_is_eq, is_eq, is_some, length, true}
 use Rattle.litemap.proofs.Common.{length-append, option_or, refl, subst, sym, Ordering, Less, Equal, Greater, IsTotalOrder, key_or_equal}
 use Rattle.litemap.proofs.Common.{above, at, below, cut, index_of, key_or, place, put, value_at, write, value_at-cut, value_at-put, value_at-put_other}
-use Rattle.litemap.proofs.Common.{value_at-write}
+use Rattle.litemap.proofs.Common.{Rising, found_remove, found_set_value, get_or_from_slice_get, remove, set_value, slice_get, slice_get_within}
+use Rattle.litemap.proofs.Common.{tied_itself, value_at-write}
 use Rattle.std.proofs.Common.{find}
 use Rattle.std.specs.Option.{option_map_or}
 use Rattle.std.proofs.lemmas.List.Folds.{find-append}
@@ -20,8 +22,8 @@ use Rattle.std.proofs.lemmas.Map.Lookups.{exact_bytes}
 use Rattle.litemap_store.specs.Splits.{IsFoundAt, Splits}
 use Rattle.litemap_store.proofs.Callers.Lookups.{below-above, below-below}
 use Rattle.litemap_store.proofs.Callers.Tallies.{value_at_equal}
-use Rattle.litemap_store.proofs.Search.Splitting.{not_is_eq}
-use Rattle.litemap_store.specs.Queries.{Respects}
+use Rattle.litemap_store.proofs.Search.Splitting.{found_at, not_is_eq}
+use Rattle.litemap_store.specs.Queries.{Respects, key_one_side}
 use Rattle.litemap.specs.Updates.{Finds, KeepsPart, KeysStay, Places, Updates}
 
 length-between : {X : Type 0} (A B : List X) (x : X) → length (A ++ x ∷ B) ≡ length (A ++ B) + 1
@@ -142,20 +144,38 @@ module _ {K V : Type 0} {cmp : K → K → Ordering} (o : IsTotalOrder cmp) (L :
   pub updates_put : (r : Result ℕ ℕ) → Splits cmp L k r → Updates cmp k (Some v) L (put cmp L k v)
   updates_put r s = record { finds = finds_put r s; each = λ q. each_by q (cmp q k) refl }
 
-  -- a pair above all others
-  pub updates_push : AllBelow cmp L k → Updates cmp k (Some v) L (L ++ (k, v) ∷ [])
-  updates_push b =
-      let less = each (λ (p : K × V). cmp p.0 k ≡ Less) L b in
-      let low : below cmp L k ≡ L = filter_all (λ (p : K × V). is_lt (cmp p.0 k)) L (λ x i. ap is_lt (less x i)) in
-      let high : above cmp L k ≡ [] = filter_none (λ (p : K × V). is_gt (cmp p.0 k)) L (λ x i. ap is_gt (less x i)) in
-      let none : at cmp L k ≡ None = none_found (λ (p : K × V). is_eq (cmp p.0 k)) L (λ x i. ap is_eq (less x i)) in
-      let s : Splits cmp L k (Err (length L)) = record { is = sym (rw (low, high) (append-nil L)); place = ap length (sym low); missing = none } in
-      let e : put cmp L k v ≡ L ++ (k, v) ∷ [] = rw (low, high, none) refl in
-      subst (λ M. Updates cmp k (Some v) L M) e (updates_put (Err (length L)) s)
-
   pub places_put : (r : Result ℕ ℕ) → Splits cmp L k r → Places cmp k (Some v) L (put cmp L k v)
   places_put r s =
       let x : K × V = (key_or (at cmp L k) k, v) in record {
         index = index-by cmp k (put cmp L k v) (place cmp L k) (Some v) (value_at-put o k L v) (place-between cmp k L x (key_or_equal o k L));
         len = len-between cmp k L x r s;
       }
+
+  -- a pair above all others
+  splits_push : AllBelow cmp L k → Splits cmp L k (Err (length L)) × (put cmp L k v ≡ L ++ (k, v) ∷ [])
+  splits_push b =
+      let less = each (λ (p : K × V). cmp p.0 k ≡ Less) L b in
+      let low : below cmp L k ≡ L = filter_all (λ (p : K × V). is_lt (cmp p.0 k)) L (λ x i. ap is_lt (less x i)) in
+      let high : above cmp L k ≡ [] = filter_none (λ (p : K × V). is_gt (cmp p.0 k)) L (λ x i. ap is_gt (less x i)) in
+      let none : at cmp L k ≡ None = none_found (λ (p : K × V). is_eq (cmp p.0 k)) L (λ x i. ap is_eq (less x i)) in (
+        record { is = sym (rw (low, high) (append-nil L)); place = ap length (sym low); missing = none },
+        rw (low, high, none) refl,
+      )
+
+  pub updates_push : AllBelow cmp L k → Updates cmp k (Some v) L (L ++ (k, v) ∷ [])
+  updates_push b = let s = splits_push b in subst (Updates cmp k (Some v) L) s.1 (updates_put (Err (length L)) s.0)
+
+  pub places_push : AllBelow cmp L k → Places cmp k (Some v) L (L ++ (k, v) ∷ [])
+  places_push b = let s = splits_push b in subst (Places cmp k (Some v) L) s.1 (places_put (Err (length L)) s.0)
+
+-- ---- at an index of an ascending list
+module _ {K V : Type 0} {cmp : K → K → Ordering} (o : IsTotalOrder cmp) (L : List (K × V)) (r : Rising cmp L) (i : ℕ) (p : K × V)
+    (there : slice_get L i ≡ Some p) where
+  stands : IsFoundAt cmp L p.0 i
+  stands = found_at (key_one_side o) L p.0 i r (slice_get_within L i p there) (λ d. rw (get_or_from_slice_get L i p d there) (tied_itself o p.0))
+
+  pub updates_set : (v : V) → Updates cmp p.0 (Some v) L (set_value L i v)
+  updates_set v = subst (Updates cmp p.0 (Some v) L) (sym (found_set_value cmp L p.0 i stands v)) (updates_put o L p.0 v (Ok i) stands)
+
+  pub places_remove : Places cmp p.0 None L (remove L i)
+  places_remove = subst (Places cmp p.0 None L) (sym (found_remove cmp L p.0 i stands)) (places_cut cmp p.0 L (Ok i) stands)

@@ -1,5 +1,6 @@
 -- What a closure writes into a list of pairs.
---     written_on, written_all      from one pair to the next, and after the last;  CallableOnValues-rest      what may be called on after one
+--     written_on, written_all      from one pair to the next, and after the last
+--     CallableOnValues-here, -after      what may be called at an index, and after it
 --     keys-written, Rising-keys, map-written      what is left has the same keys, ascends, and is mapped
 --     keys_of-write, length-write      once a value is written at a query
 use Rattle.litemap.proofs.Common.{◌≡◌, ℕ, ◌+◌, List, [], ◌∷◌, ◌++◌, map, take, drop, drop-set-lt, slice_get, slice_set, Some}
@@ -8,7 +9,9 @@ use Rattle.litemap.proofs.Common.{append-nil, drop_all, take_all, take_more_set,
 use Rattle.litemap.proofs.Common.{BelowAll, Rising, set_value, drop_at, Mut, Result, Ok, Err, above, below, write}
 use Rattle.std.proofs.lemmas.Map.Entries.{length-keys_of}
 use Rattle.litemap_store.specs.Splits.{Splits}
-use Rattle.litemap.specs.Written.{CallableOnValues, Writes, WritesPair, Written}
+use Rattle.std.specs.Fn.{Takes}
+use Rattle.litemap.specs.KeptWritten.{CallableOnValues, LeavesPair}
+use Rattle.litemap.specs.Written.{Writes, Written}
 
 module _ {K V : Type 0} where
   -- with another value at index i: the pairs after it, and those up to it
@@ -34,11 +37,19 @@ module _ {K V : Type 0} where
         → ((M : List (K × V)) → Rest (drop i L) M → Done (take i L ++ M)) → Done L
     written_all Rest h none so_far = subst Done (append-nil (take i L) ∙ take_all i L h) (so_far [] (subst (λ N. Rest N []) (sym (drop_all i L h)) none))
 
-module _ {F K V : Type 0} (g : Mut F (Bor K × (MutBor V × Unit {0})) (Unit {0} × (MutBor V × Unit {0}))) where
-  -- f may be called on the pairs after the first one
-  pub CallableOnValues-rest : (f : F) (p q : K × V) (f' : F) (L : List (K × V)) → WritesPair g f p q f' → CallableOnValues g f (p ∷ L) → CallableOnValues g f' L
-  CallableOnValues-rest f p q f' L w c = record { at = λ before after s r is folds. c.at (p ∷ before) after s r (ap (λ N. p ∷ N) is) (f', (q, w), folds) }
+-- f may be called on the pair p at index i, and then on those after it
+module _ {F K V R : Type 0} (g : Mut F (Bor K × (MutBor V × Unit {0})) (R × (MutBor V × Unit {0}))) (f : F) (L : List (K × V)) (i : ℕ) (p : K × V)
+    (there : slice_get L i ≡ Some p) (c : CallableOnValues g f (drop i L)) where
+  from_here : CallableOnValues g f (p ∷ drop (i + 1) L)
+  from_here = subst (CallableOnValues g f) (drop_at L i p there) c
 
+  pub CallableOnValues-here : (k : Bor K) (v : MutBor V) → k.now ≡ p.0 → v.now ≡ p.1 → Takes g f (k, (v, tt))
+  CallableOnValues-here = from_here.at [] (drop (i + 1) L) f p refl refl
+
+  pub CallableOnValues-after : (r : R) (f' : F) (q : K × V) → LeavesPair g f p r f' q → CallableOnValues g f' (drop (i + 1) L)
+  CallableOnValues-after r f' q w = record { at = λ before after s x is folds. from_here.at (p ∷ before) after s x (ap (λ N. p ∷ N) is) (f', (r, q, w), folds) }
+
+module _ {F K V : Type 0} (g : Mut F (Bor K × (MutBor V × Unit {0})) (Unit {0} × (MutBor V × Unit {0}))) where
   pub keys-written : (f : F) (L M : List (K × V)) → Written g f L M → keys_of M ≡ keys_of L
   keys-written f [] M h = ap keys_of h
   keys-written f (p ∷ L) M (q, f', N, w, h, is) = ap keys_of is ∙ ap (λ k. k ∷ keys_of N) (ap (λ x. x.0) w.leaves) ∙ ap (λ ks. p.0 ∷ ks) (keys-written f' L N h)

@@ -11,7 +11,7 @@ use denote.Ref.{Bor}
 -- the pairs of a map become those of another, or memory runs out; it never does for no pairs
 pub record Converts {K L V W E : Type 0} (key_became : K → L → Type 0) (value_became : V → W → Type 0) (before : List (K × V))
     (result : Result (Contents L W) E) : Type 0 where
-  pub became : IfOk result (λ m. PairsBecame key_became value_became before m.pairs)
+  pub became : IfOk result (λ m. PairsBecame key_became value_became before m.entries)
   pub succeeds : before ≡ [] → IsOk result
 
 module _ {K L V : Type 0} where

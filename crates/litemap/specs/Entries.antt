@@ -19,6 +19,7 @@ use Rattle.litemap_store.specs.Contents.{Contents, with_pairs}
 use Rattle.litemap.specs.declared.map.entry.OccupiedEntry.{OccupiedEntry}
 use Rattle.litemap.specs.declared.try_fault.TryFault.{TryFault}
 use Rattle.litemap.specs.TryFault.{IfClosure, IfNoRoom}
+use Rattle.litemap.specs.Updates.{Finds, KeysStay, Updates}
 use Rattle.litemap.specs.declared.map.entry.VacantEntry.{VacantEntry}
 use Rattle.litemap.specs.declared.map.entry.Entry.{Entry}
 use Rattle.litemap.specs.declared.map.entry.Entry.TheVariants as variants
@@ -46,31 +47,31 @@ module _ {K V S : Type 0} {g : ord.Ghosts K} {g' : eq.Ghosts K} {g'' : partial.G
 
   -- the key in the map, or the key looked up if it is absent
   abbrev pub entry_key : Entry K V S g g' g'' s → Option K
-  entry_key (variants.Occupied o) = option_map (λ p. p.0) (slice_get o.map.now.pairs o.index)
+  entry_key (variants.Occupied o) = option_map (λ p. p.0) (slice_get o.map.now.entries o.index)
   entry_key (variants.Vacant e) = Some e.key
 
   -- the value at the key, if it is present
   abbrev pub entry_value : Entry K V S g g' g'' s → Option V
-  entry_value (variants.Occupied o) = value_in o.map.now.pairs o.index
+  entry_value (variants.Occupied o) = value_in o.map.now.entries o.index
   entry_value (variants.Vacant e) = None
 
   -- the pairs of the map with v at the entry's key: written if it is present, else inserted
   abbrev pub pairs_with : Entry K V S g g' g'' s → V → List (K × V)
-  pairs_with (variants.Occupied o) v = set_value o.map.now.pairs o.index v
-  pairs_with (variants.Vacant e) v = put g.cmp e.map.now.pairs e.key v
+  pairs_with (variants.Occupied o) v = set_value o.map.now.entries o.index v
+  pairs_with (variants.Vacant e) v = put g.cmp e.map.now.entries e.key v
 
   -- the pairs of the map without the entry's key
   abbrev pub pairs_without : Entry K V S g g' g'' s → List (K × V)
-  pairs_without (variants.Occupied o) = remove o.map.now.pairs o.index
-  pairs_without (variants.Vacant e) = e.map.now.pairs
+  pairs_without (variants.Occupied o) = remove o.map.now.entries o.index
+  pairs_without (variants.Vacant e) = e.map.now.entries
 
   -- the map with v at the key of an occupied entry
   abbrev pub map_with_value : OccupiedEntry K V S g g' g'' s → V → Contents K V
-  map_with_value o v = with_pairs o.map.now (set_value o.map.now.pairs o.index v)
+  map_with_value o v = with_pairs o.map.now (set_value o.map.now.entries o.index v)
 
   -- the index of an entry is still within the list after a write of its value
-  pub still_within : (o : OccupiedEntry K V S g g' g'' s) (v : V) → o.index < length (set_value o.map.now.pairs o.index v)
-  still_within o v = subst (λ n. o.index < n) (sym (length-set_value o.map.now.pairs o.index v)) o.within
+  pub still_within : (o : OccupiedEntry K V S g g' g'' s) (v : V) → o.index < length (set_value o.map.now.entries o.index v)
+  still_within o v = subst (λ n. o.index < n) (sym (length-set_value o.map.now.entries o.index v)) o.within
 
   -- an occupied entry with v as its value
   abbrev pub with_entry_value : OccupiedEntry K V S g g' g'' s → V → OccupiedEntry K V S g g' g'' s
@@ -87,7 +88,7 @@ module _ {K V S : Type 0} {g : ord.Ghosts K} {g' : eq.Ghosts K} {g'' : partial.G
 
   -- the map n has v at the entry's key; the room is kept if the key was present, else lowered by at most one
   pub record Leaves (e : Entry K V S g g' g'' s) (n : Contents K V) (v : V) : Type 0 where
-    pub pairs : n.pairs ≡ pairs_with e v
+    pub pairs : n.entries ≡ pairs_with e v
     pub room : (entry_map e).now.room ≤ n.room + 1
     pub room_kept : IsSome (entry_value e) → n.room ≡ (entry_map e).now.room
 
@@ -105,7 +106,7 @@ module _ {K V S : Type 0} {g : ord.Ghosts K} {g' : eq.Ghosts K} {g'' : partial.G
     pub absent : entry_value e ≡ None
     pub full : (entry_map e).now.room ≡ 0
     pub same_key : entry_key e ≡ Some b.key
-    pub same_pairs : b.map.now.pairs ≡ (entry_map e).now.pairs
+    pub same_pairs : b.map.now.entries ≡ (entry_map e).now.entries
     pub same_map : b.map.ghost_name ≡ (entry_map e).ghost_name
 
   -- it fails only if the key is absent and the room is 0: the error has the key, and a value of which P holds
@@ -121,6 +122,8 @@ module _ {K V S : Type 0} {g : ord.Ghosts K} {g' : eq.Ghosts K} {g'' : partial.G
     pub value : entry_value (Occupied o) ≡ value_in L i
     pub writes : (v : V) → pairs_with (Occupied o) v ≡ set_value L i v
     pub removes : pairs_without (Occupied o) ≡ remove L i
+    -- what lookups find after a write
+    pub updates : (p : K × V) (v : V) → slice_get L i ≡ Some p → Updates g.cmp p.0 (Some v) L (pairs_with (Occupied o) v)
 
   -- the entry is that of the key k in the list
   pub record IsEntryOf (L : List (K × V)) (k : K) (e : Entry K V S g g' g'' s) : Type 0 where
@@ -128,6 +131,8 @@ module _ {K V S : Type 0} {g : ord.Ghosts K} {g' : eq.Ghosts K} {g'' : partial.G
     pub value : entry_value e ≡ value_at g.cmp L k
     pub writes : (v : V) → pairs_with e v ≡ put g.cmp L k v
     pub removes : pairs_without e ≡ cut g.cmp L k
+    -- what lookups find after a write
+    pub updates : (v : V) → Updates g.cmp k (Some v) L (pairs_with e v)
 
   -- the entry is that of the key in the list which is equal to q
   pub record IsFoundBy {Q : Type 0} (order : K → Q → Ordering) (L : List (K × V)) (q : Q) (e : Entry K V S g g' g'' s) : Type 0 where
@@ -135,6 +140,9 @@ module _ {K V S : Type 0} {g : ord.Ghosts K} {g' : eq.Ghosts K} {g'' : partial.G
     pub value : entry_value e ≡ value_at order L q
     pub writes : (v : V) → pairs_with e v ≡ write order L q v
     pub removes : pairs_without e ≡ cut order L q
+    -- what lookups find after a write, by any query and by a key
+    pub updates : (v : V) → Finds order q (Some v) L (pairs_with e v)
+    pub others : (v : V) → KeysStay g.cmp order q L (pairs_with e v)
 
   -- if the key is absent, f may be called on it
   abbrev pub IsTakenFor : {F : Type 0} → Once F (Bor K × Unit {0}) V → F → Entry K V S g g' g'' s → Type 0
@@ -172,7 +180,7 @@ module _ (K V S : RattleType) {g : ord.Ghosts K.Denot} {g' : eq.Ghosts K.Denot} 
   abbrev pub EntryLends : {E : Type 0} → Entry K.Denot V.Denot S.Denot g g' g'' s → Result (MutBor V.Denot) E → Fml
   EntryLends e r =
       follows_so (the_row K V S g g' g'' s) V (entry_map e).ghost_name (name_if_ok (λ x. x.ghost_name) r)
-      (λ v n. IsOk r → Leaves e n v) (λ n. OnErr r (n.pairs ≡ (entry_map e).now.pairs))
+      (λ v n. IsOk r → Leaves e n v) (λ n. OnErr r (n.entries ≡ (entry_map e).now.entries))
 
   -- if there is no entry, the map stays
   abbrev pub RestsIfEmpty : MutBor (Contents K.Denot V.Denot) → Option (OccupiedEntry K.Denot V.Denot S.Denot g g' g'' s) → Fml

@@ -1,11 +1,13 @@
 -- The definitions that the contracts cite. Those of the sorted list are in `Pairs` of the crate `litemap_store`.
 pub mod ByBytes
+pub mod Callable
 pub mod Changes
 pub mod Combined
 pub mod Comparisons
 pub mod Conversions
 pub mod Entries
 pub mod FoundBy
+pub mod HashWords
 pub mod KeptWritten
 pub mod Lends
 pub mod Nearest

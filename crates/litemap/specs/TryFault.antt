@@ -37,8 +37,8 @@ module _ {F K V E : Type 0} (g : Once F (Bor K × Unit {0}) (Result V E)) (f : F
     (old : Contents K V) (result : Result (ℕ × Bor V) (TryFault K V E)) where
   -- what the map `old` is after the call: the same if the key is present, else with the value that is returned
   pub record IsInsertedAt (n : Contents K V) : Type 0 where
-    pub present : IsSome (at cmp old.pairs key) → n ≡ old
-    pub put : IsNone (at cmp old.pairs key) → IfOk result (λ there. n.pairs ≡ put cmp old.pairs key there.1.now)
+    pub present : IsSome (at cmp old.entries key) → n ≡ old
+    pub put : IsNone (at cmp old.entries key) → IfOk result (λ there. n.entries ≡ put cmp old.entries key there.1.now)
     pub room : old.room ≤ n.room + 1
-    pub unchanged : OnErr result (n.pairs ≡ old.pairs)
+    pub unchanged : OnErr result (n.entries ≡ old.entries)
     pub unchanged_by_closure : IfClosure result (λ _. n ≡ old)

@@ -6,7 +6,7 @@ use Rattle.std.specs.Option.{option_or}
 use Rattle.std.specs.Ordering.{is_eq, nat_cmp}
 use Rattle.std.specs.declared.cmp.Ordering.{Ordering}
 use Rattle.std.specs.declared.cmp.Ordering.TheVariants.{Equal, Greater}
-use Rattle.litemap_store.specs.Pairs.{at, index_of, place, value_at}
+use Rattle.litemap_store.specs.Pairs.{at, cut, index_of, place, value_at}
 
 -- the query q finds w (`None`: nothing), and each other one what it found before
 pub record Finds {K Q V : Type 0} (order : K → Q → Ordering) (q : Q) (w : Option V) (before after : List (K × V)) : Type 0 where
@@ -29,6 +29,11 @@ pub record Updates {K V : Type 0} (cmp : K → K → Ordering) (key : K) (w : Op
 pub record Places {K Q V : Type 0} (order : K → Q → Ordering) (q : Q) (w : Option V) (before after : List (K × V)) : Type 0 where
   pub index : index_of order after q ≡ (if is_some w then Ok (place order before q) else Err (place order before q))
   pub len : length after + (if is_some (at order before q) then 1 else 0) ≡ length before + (if is_some w then 1 else 0)
+
+-- the index of the key `key`, to which the value of q is moved, and the length
+pub record MovesPlace {K Q V : Type 0} (order : K → Q → Ordering) (q : Q) (cmp : K → K → Ordering) (key : K) (before after : List (K × V)) : Type 0 where
+  pub index : IsSome (at order before q) → index_of cmp after key ≡ Ok (place cmp (cut order before q) key)
+  pub len : IsSome (at order before q) → length after + (if is_some (at cmp (cut order before q) key) then 1 else 0) ≡ length before
 
 -- a value is moved from the query q to the key `key`
 pub record Moves {K Q V : Type 0} (order : K → Q → Ordering) (q : Q) (cmp : K → K → Ordering) (key : K) (before after : List (K × V)) : Type 0 where

@@ -1,7 +1,7 @@
 -- The pairs whose keys are within two bounds, and those before the first. `order k q` is how the key k compares with the query
 -- of a bound.
 use Rattle.std.specs.Prelude.{◌≡◌, ℕ, zero, suc, ◌+◌, ◌-◌, ◌≤◌, List, [], ◌∷◌, length, slice_get, Some, None, IfSome, All, Bool, true, false}
-use Rattle.std.specs.Prelude.{not, ◌&&◌, filter, ⊤}
+use Rattle.std.specs.Prelude.{nat_lt, not, ◌&&◌, filter, ⊤}
 use Rattle.std.specs.List.{AllByRecursion}
 use Rattle.std.specs.Ordering.{is_gt, is_le, is_lt}
 use Rattle.std.specs.declared.cmp.Ordering.{Ordering}
@@ -9,7 +9,7 @@ use Rattle.std.specs.declared.cmp.Ordering.TheVariants.{Less, Greater}
 use Rattle.std.specs.declared.ops.Bound.{Bound}
 use Rattle.std.specs.declared.ops.Bound.TheVariants.{Included, Excluded, Unbounded}
 use Rattle.std.specs.declared.ops.Range.{Range}
-use Rattle.litemap_store.specs.Pairs.{sub, value_at}
+use Rattle.litemap_store.specs.Pairs.{place, sub, value_at}
 
 module _ {K Q : Type 0} (order : K → Q → Ordering) where
   -- the key is before a lower bound
@@ -66,6 +66,10 @@ pub record AreBetween {K Q V : Type 0} (order : K → Q → Ordering) (from to :
 pub record FindsBetween {K Q V : Type 0} (cmp : K → K → Ordering) (order : K → Q → Ordering) (from to : Bound Q) (L M : List (K × V)) : Type 0 where
   pub stays : (k : K) → IsBetween order from to k → value_at cmp M k ≡ value_at cmp L k
   pub gone : (k : K) → (IsBetween order from to k → ⊥) → value_at cmp M k ≡ None
+
+-- the key's index in the list, or the one where it would be inserted, is from a to b - 1
+abbrev pub stands_within : {K V : Type 0} → (K → K → Ordering) → List (K × V) → ℕ → ℕ → K → Bool
+stands_within cmp L a b k = not (nat_lt (place cmp L k) a) && nat_lt (place cmp L k) b
 
 -- the test is true of the first n elements, and of no other
 abbrev pub IsCut : {X : Type 0} → (X → Bool) → List X → ℕ → Type 0

@@ -21,22 +21,22 @@ impl<'a, K: Ord, V> LiteMap<K, V, SliceStore<'a, K, V>> {
     /// days.const_len() == 3 && !days.const_is_empty() && days.const_get_indexed_or_panic(2).0 == 5
     /// ```
     pub fn const_len(&self) -> usize
-        ensures { result ≡ length self.now.pairs }
+        ensures { result ≡ length self.now.entries }
     {
         self.len()
     }
 
     /// Returns whether the map is empty.
     pub fn const_is_empty(&self) -> bool
-        ensures { result ≡ (length self.now.pairs == 0) }
+        ensures { result ≡ (length self.now.entries == 0) }
     {
         self.is_empty()
     }
 
     /// Returns the pair at an index, which has to be below the length. The Rust crate panics if it isn't, as the name says.
     pub fn const_get_indexed_or_panic(&self, index: usize) -> &'a (K, V)
-        requires { index < length self.now.pairs }
-        ensures { slice_get self.now.pairs index ≡ Some result.now }
+        requires { index < length self.now.entries }
+        ensures { slice_get self.now.entries index ≡ Some result.now }
     {
         let pairs = self.store.pairs;
         &pairs[index]
@@ -44,8 +44,8 @@ impl<'a, K: Ord, V> LiteMap<K, V, SliceStore<'a, K, V>> {
 
     // Returns the index and the value of the equal key, or `None` if there is none.
     fn const_find<Q: Query<K>>(&self, key: Q, count: &mut Count) -> Option<(usize, &'a V)>
-        ensures found { GetsWithIndex Q.order self.now.pairs (Q.sought key) result }
-        ensures cost { RisesByAtMost (digits (length self.now.pairs)) count.old count.new }
+        ensures found { GetsWithIndex Q.order self.now.entries (Q.sought key) result }
+        ensures cost { RisesByAtMost (digits (length self.now.entries)) count.old count.new }
     {
         match self.search(key, count) {
             Ok(index) => Some((index, &self.const_get_indexed_or_panic(index).1)),
@@ -66,7 +66,7 @@ impl<'a, 'k, V> LiteMap<&'k str, V, SliceStore<'a, &'k str, V>> {
     /// capitals.const_get_with_index("Oslo") == Some((1, &47))
     /// ```
     pub fn const_get_with_index(&self, key: &str) -> Option<(usize, &'a V)>
-        ensures { GetsWithIndex by_bytes self.now.pairs key.entry result }
+        ensures { GetsWithIndex by_bytes self.now.entries key.entry result }
     {
         self.const_find::<&str>(key, &mut Count::new())
     }
@@ -78,7 +78,7 @@ impl<'a, 'k, V> LiteMap<&'k [u8], V, SliceStore<'a, &'k [u8], V>> {
     ///
     /// The key that is looked up may live shorter than those of the map.
     pub fn const_get_with_index(&self, key: &[u8]) -> Option<(usize, &'a V)>
-        ensures { GetsWithIndex by_bytes self.now.pairs key.entry result }
+        ensures { GetsWithIndex by_bytes self.now.entries key.entry result }
     {
         self.const_find::<&[u8]>(key, &mut Count::new())
     }
@@ -114,7 +114,7 @@ impl Integer for isize {}
 impl<'a, K: Integer, V> LiteMap<K, V, SliceStore<'a, K, V>> {
     /// Returns the index and the value of an equal key, or `None` if there is none.
     pub fn const_get_with_index(&self, key: K) -> Option<(usize, &'a V)>
-        ensures { GetsWithIndex K.cmp self.now.pairs key result }
+        ensures { GetsWithIndex K.cmp self.now.entries key result }
     {
         self.const_find(&key, &mut Count::new())
     }

@@ -14,6 +14,7 @@ pub use litemap_store::{Query, store};
 pub use map::{
     Entry, KeysIterWrap, LiteMap, OccupiedEntry, RangeIter, VacantEntry, ValuesIterWrap,
 };
+use std::alloc::Global;
 pub use try_fault::TryFault;
 
 /// A map over one vector of pairs (own).
@@ -22,7 +23,7 @@ pub use try_fault::TryFault;
 /// /// Names of days by their numbers.
 /// pub type Days = VecMap<u32, &'static str>;
 /// ```
-pub type VecMap<K, V> = LiteMap<K, V, Vec<(K, V)>>;
+pub type VecMap<K, V, A = Global> = LiteMap<K, V, Vec<(K, V), A>>;
 
 /// A map over pairs that it borrows (own), such as those of `range` and of a constant table.
 pub type SliceMap<'a, K, V> = LiteMap<K, V, store::SliceStore<'a, K, V>>;

@@ -20,7 +20,7 @@ mod write;
 pub use entry::{Entry, OccupiedEntry, VacantEntry};
 pub use iter::{KeysIterWrap, RangeIter, ValuesIterWrap};
 use litemap_store::store::{Store, StoreConstEmpty, StoreMut};
-use std::alloc::{AllocError, Global};
+use std::alloc::{AllocError, Allocator};
 use std::default::MadeWith;
 use std::fmt::{self, Debug, Formatter, Write};
 use std::marker::{Model, PhantomData};
@@ -28,8 +28,6 @@ use std::marker::{Model, PhantomData};
 /// A map with strictly ascending keys, over a store.
 ///
 /// A contract sees the list of its pairs and, if the store can grow, its room: how many further pairs it takes without failing.
-///
-/// The examples of the calls use this map, `three_days`:
 ///
 /// ```rust
 /// pub fn three_days(alloc: Global) -> Result<Days, AllocError> {
@@ -52,23 +50,23 @@ impl<K: Ord, V, S: Store<K, V>> Model for LiteMap<K, V, S> {
 
     ghost Value = { Contents K V };
 
-    ghost view = { λ m. record { pairs = S.pairs m.store; room = S.room m.store } };
+    ghost view = { λ m. record { entries = S.pairs m.store; room = S.room m.store } };
 
     ghost invariant = { λ m. Rising K.cmp (S.pairs m.store) };
 }
 
-impl<K: Ord, V> LiteMap<K, V, Vec<(K, V)>> {
+impl<K: Ord, V, A: Allocator + Copy> LiteMap<K, V, Vec<(K, V), A>> {
     /// Returns an empty map over a vector. It takes no memory.
-    pub fn new_vec(alloc: Global) -> Self
-        ensures pairs { result.pairs ≡ [] }
+    pub fn new_vec(alloc: A) -> Self
+        ensures pairs { result.entries ≡ [] }
         ensures room { result.room ≡ 0 }
     {
         LiteMap::from_sorted_store_unchecked(Vec::new(alloc))
     }
 
     /// Returns the pairs as a vector. Their keys are strictly ascending.
-    pub fn into_tuple_vec(self) -> Vec<(K, V)>
-        ensures pairs { result.items ≡ self.pairs }
+    pub fn into_tuple_vec(self) -> Vec<(K, V), A>
+        ensures pairs { result.items ≡ self.entries }
         ensures rising { Rising K.cmp result.items }
     {
         self.store
@@ -76,7 +74,7 @@ impl<K: Ord, V> LiteMap<K, V, Vec<(K, V)>> {
 
     /// Returns the number of pairs that the map has memory for (own).
     pub fn capacity(&self) -> usize
-        ensures { result ≡ length self.now.pairs + self.now.room }
+        ensures { result ≡ length self.now.entries + self.now.room }
     {
         self.store.capacity()
     }
@@ -91,18 +89,18 @@ impl<K: Ord, V> LiteMap<K, V, Vec<(K, V)>> {
     /// Ok(is_kept && days.capacity() == 0 && days.as_store().is_empty())
     /// ```
     pub fn shrink_to_fit(&mut self)
-        ensures pairs { self.new.pairs ≡ self.old.pairs }
+        ensures pairs { self.new.entries ≡ self.old.entries }
         ensures room { self.new.room ≤ self.old.room }
-        ensures frees { self.old.pairs ≡ [] → self.new.room ≡ 0 }
+        ensures frees { self.old.entries ≡ [] → self.new.room ≡ 0 }
     {
         self.store.shrink_to_fit();
     }
 
     /// `shrink_to_fit`, but keeps memory for `capacity` pairs if there was so much (own).
     pub fn shrink_to(&mut self, capacity: usize)
-        ensures pairs { self.new.pairs ≡ self.old.pairs }
+        ensures pairs { self.new.entries ≡ self.old.entries }
         ensures room { self.new.room ≤ self.old.room }
-        ensures kept { min capacity (length self.old.pairs + self.old.room) ≤ length self.new.pairs + self.new.room }
+        ensures kept { min capacity (length self.old.entries + self.old.room) ≤ length self.new.entries + self.new.room }
     {
         self.store.shrink_to(capacity);
     }
@@ -122,7 +120,7 @@ impl<K: Ord, V, S: Store<K, V>> LiteMap<K, V, S> {
     /// ```
     pub fn from_sorted_store_unchecked(store: S) -> Self
         requires { Rising K.cmp (S.pairs store) }
-        ensures pairs { result.pairs ≡ S.pairs store }
+        ensures pairs { result.entries ≡ S.pairs store }
         ensures room { result.room ≡ S.room store }
     {
         LiteMap {
@@ -139,7 +137,7 @@ impl<K: Ord, V, S: Store<K, V>> LiteMap<K, V, S> {
     /// falling.is_err() && Days::try_from_sorted(Vec::new(alloc)).is_ok()
     /// ```
     pub fn try_from_sorted(store: S) -> Result<Self, S>
-        ensures pairs { IfOk result (λ m. m.pairs ≡ S.pairs store) }
+        ensures pairs { IfOk result (λ m. m.entries ≡ S.pairs store) }
         ensures room { IfOk result (λ m. m.room ≡ S.room store) }
         ensures back { IfErr result (λ s. s ≡ store) }
         ensures falls { OnErr result (¬ (Rising K.cmp (S.pairs store))) }
@@ -168,7 +166,7 @@ impl<K: Ord, V, S: Store<K, V>> LiteMap<K, V, S> {
 
     /// Returns a reference to the store (own).
     pub fn as_store(&self) -> &S
-        ensures pairs { S.pairs result.now ≡ self.now.pairs }
+        ensures pairs { S.pairs result.now ≡ self.now.entries }
         ensures room { S.room result.now ≡ self.now.room }
     {
         &self.store
@@ -179,10 +177,11 @@ impl<K: Ord, V, S: Store<K, V>> LiteMap<K, V, S> {
     /// ```rust
     /// let days: ColumnMap<u32, &str> = [(3, "Wednesday"), (1, "Monday")].into_iter().collect(alloc)?;
     /// let (numbers, names) = days.into_store().into_columns();
-    /// Ok(numbers.as_slice() == [1, 3].as_slice() && names.as_slice() == ["Monday", "Wednesday"].as_slice())
+    /// let are_numbers = numbers.as_slice() == [1, 3].as_slice();
+    /// Ok(are_numbers && names.as_slice() == ["Monday", "Wednesday"].as_slice())
     /// ```
     pub fn into_store(self) -> S
-        ensures pairs { S.pairs result ≡ self.pairs }
+        ensures pairs { S.pairs result ≡ self.entries }
         ensures room { S.room result ≡ self.room }
         ensures rising { Rising K.cmp (S.pairs result) }
     {
@@ -192,18 +191,18 @@ impl<K: Ord, V, S: Store<K, V>> LiteMap<K, V, S> {
 
 impl<K: Ord, V, S: StoreConstEmpty<K, V>> LiteMap<K, V, S> {
     /// Returns an empty map. It takes no memory. Its room is 0 over a vector or two columns, 1 over a short store (`empty_room`).
-    pub fn new(alloc: Global) -> Self
-        ensures pairs { result.pairs ≡ [] }
+    pub fn new(alloc: S::Alloc) -> Self
+        ensures pairs { result.entries ≡ [] }
         ensures room { S.empty_room result.room }
     {
         LiteMap::from_sorted_store_unchecked(S::lm_empty(alloc))
     }
 }
 
-impl<K: Ord, V, S: StoreConstEmpty<K, V>> MadeWith<Global> for LiteMap<K, V, S> {
-    ghost is_made_with = { λ m. m.pairs ≡ [] };
+impl<K: Ord, V, S: StoreConstEmpty<K, V>> MadeWith<S::Alloc> for LiteMap<K, V, S> {
+    ghost is_made_with = { λ m. m.entries ≡ [] };
 
-    fn made_with(alloc: Global) -> Self {
+    fn made_with(alloc: S::Alloc) -> Self {
         LiteMap::new(alloc)
     }
 }
@@ -211,8 +210,8 @@ impl<K: Ord, V, S: StoreConstEmpty<K, V>> MadeWith<Global> for LiteMap<K, V, S> 
 impl<K: Ord, V, S: StoreMut<K, V>> LiteMap<K, V, S> {
     /// Returns an empty map with capacity for at least `capacity` pairs, or an error if memory runs out or the store can't hold
     /// so many. It never fails for a capacity of up to the store's `free_room`: 0 over a vector, 1 over a short store.
-    pub fn with_capacity(alloc: Global, capacity: usize) -> Result<Self, AllocError>
-        ensures empty { IfOk result (λ m. m.pairs ≡ []) }
+    pub fn with_capacity(alloc: S::Alloc, capacity: usize) -> Result<Self, AllocError>
+        ensures empty { IfOk result (λ m. m.entries ≡ []) }
         ensures room { IfOk result (λ m. capacity ≤ m.room) }
         ensures succeeds { capacity ≤ S.free_room → IsOk result }
     {
@@ -224,16 +223,16 @@ impl<K: Ord, V, S: StoreMut<K, V>> LiteMap<K, V, S> {
     ///
     /// A clone of each key has to compare `Equal` to it; for `String` keys the caller's attribute
     /// `using(litemap::proofs::Texts::text_clones)` shows that. No keys are compared.
-    pub fn try_clone(&self, alloc: Global) -> Result<Self, AllocError>
+    pub fn try_clone(&self, alloc: S::Alloc) -> Result<Self, AllocError>
     where
         K: Clone,
         V: Clone,
         S: Drop,
-        requires { ClonesCompareEqual K.cmp K.is_clone self.now.pairs }
-        ensures clones { IfOk result (λ m. PairsBecame K.is_clone V.is_clone self.now.pairs m.pairs) }
+        requires { ClonesCompareEqual K.cmp K.is_clone self.now.entries }
+        ensures clones { IfOk result (λ m. PairsBecame K.is_clone V.is_clone self.now.entries m.entries) }
         ensures same { IfOk result
-            (λ m. ClonesAreSame K.is_clone → ClonesAreSame V.is_clone → m.pairs ≡ self.now.pairs) }
-        ensures succeeds { self.now.pairs ≡ [] → IsOk result }
+            (λ m. ClonesAreSame K.is_clone → ClonesAreSame V.is_clone → m.entries ≡ self.now.entries) }
+        ensures succeeds { self.now.entries ≡ [] → IsOk result }
     {
         let store = self.store.lm_try_clone(alloc)?;
         Ok(LiteMap::from_sorted_store_unchecked(store))

@@ -6,4 +6,4 @@ use Rattle.litemap_store.specs.VecStore.{vec_room}
 
 -- each key beside its value, and the smaller room of the two vectors
 abbrev pub columns : {K V Y Z : Type 0} → Vec K Y → Vec V Z → Contents K V
-columns keys values = record { pairs = zip keys.items values.items; room = min (vec_room keys) (vec_room values) }
+columns keys values = record { entries = zip keys.items values.items; room = min (vec_room keys) (vec_room values) }

@@ -7,6 +7,7 @@ ghost use Rattle.litemap_store.specs.Hints.{HintsExactly};
 
 use litemap_store::slice_search::Keys;
 use litemap_store::store::{PairIntoIter, PairIter};
+use std::alloc::{Allocator, Global};
 use std::marker::Model;
 use std::vec::IntoIter;
 
@@ -114,12 +115,12 @@ impl<'a, K, V> Keys<K, V> for ColumnIter<'a, K, V> {
 /// An iterator that returns the pairs of two columns by value. A contract sees it as the list of the pairs that are still to
 /// come.
 #[derive(Debug, Drop)]
-pub struct ColumnIntoIter<K, V> {
-    keys: IntoIter<K>,
-    values: IntoIter<V>,
+pub struct ColumnIntoIter<K, V, A: Allocator = Global> {
+    keys: IntoIter<K, A>,
+    values: IntoIter<V, A>,
 }
 
-impl<K, V> Model for ColumnIntoIter<K, V> {
+impl<K, V, A: Allocator> Model for ColumnIntoIter<K, V, A> {
     ghost use Rattle.std.specs.Prelude.{◌≡◌, List, length};
     ghost use Rattle.std.specs.List.{zip};
     ghost use Rattle.std.specs.Vec.Iter.{into_iter_items};
@@ -131,9 +132,9 @@ impl<K, V> Model for ColumnIntoIter<K, V> {
     ghost invariant = { λ a. length (into_iter_items a.keys) ≡ length (into_iter_items a.values) };
 }
 
-impl<K, V> ColumnIntoIter<K, V> {
+impl<K, V, A: Allocator> ColumnIntoIter<K, V, A> {
     // The iterator over keys, each with the value at its index.
-    pub(crate) fn new(keys: Vec<K>, values: Vec<V>) -> Self
+    pub(crate) fn new(keys: Vec<K, A>, values: Vec<V, A>) -> Self
         requires { length keys.items ≡ length values.items }
         ensures { result ≡ zip keys.items values.items }
     {
@@ -142,7 +143,7 @@ impl<K, V> ColumnIntoIter<K, V> {
     }
 }
 
-impl<K: Drop, V: Drop> Iterator for ColumnIntoIter<K, V> {
+impl<K: Drop, V: Drop, A: Allocator> Iterator for ColumnIntoIter<K, V, A> {
     type Item = (K, V);
 
     ghost next_gives = { YieldsFirst (λ s. s) };
@@ -163,13 +164,13 @@ impl<K: Drop, V: Drop> Iterator for ColumnIntoIter<K, V> {
     }
 }
 
-impl<K: Drop, V: Drop> ExactSizeIterator for ColumnIntoIter<K, V> {
+impl<K: Drop, V: Drop, A: Allocator> ExactSizeIterator for ColumnIntoIter<K, V, A> {
     fn len(&self) -> usize {
         self.keys.len()
     }
 }
 
-impl<K: Drop, V: Drop> PairIntoIter<K, V> for ColumnIntoIter<K, V> {
+impl<K: Drop, V: Drop, A: Allocator> PairIntoIter<K, V> for ColumnIntoIter<K, V, A> {
     ghost owned = { λ s. s };
 
     ghost can = { λ _. tt };

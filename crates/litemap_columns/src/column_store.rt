@@ -15,9 +15,9 @@ use litemap_store::retain::{SwapStore, retain};
 use litemap_store::slice_search;
 use litemap_store::store::{
     Count, KeepsMemory, NoRoom, Store, StoreAlloc, StoreBulkMut, StoreColumns, StoreConstEmpty,
-    StoreFromIterable, StoreFromIterator, StoreIntoIterator, StoreIterable, StoreMut,
+    StoreFromIterable, StoreFromIterator, StoreIn, StoreIntoIterator, StoreIterable, StoreMut,
 };
-use std::alloc::{AllocError, Global};
+use std::alloc::{AllocError, Allocator, Global};
 use std::cmp::Ordering;
 use std::marker::Model;
 use std::mem;
@@ -27,12 +27,12 @@ use std::mem;
 /// A search reads the keys alone, which lie side by side whatever the size of the values: that is what it is for. An insertion
 /// or a removal moves the later keys and the later values.
 #[derive(Debug, Drop)]
-pub struct ColumnStore<K, V> {
-    keys: Vec<K>,
-    values: Vec<V>,
+pub struct ColumnStore<K, V, A: Allocator = Global> {
+    keys: Vec<K, A>,
+    values: Vec<V, A>,
 }
 
-impl<K, V> Model for ColumnStore<K, V> {
+impl<K, V, A: Allocator> Model for ColumnStore<K, V, A> {
     ghost use Rattle.std.specs.Prelude.{◌≡◌, vec_len};
     ghost use Rattle.litemap_columns.specs.Columns.{columns};
     ghost use Rattle.litemap_store.specs.Contents.{Contents};
@@ -44,7 +44,7 @@ impl<K, V> Model for ColumnStore<K, V> {
     ghost invariant = { λ s. vec_len s.keys ≡ vec_len s.values };
 }
 
-impl<K, V> ColumnStore<K, V> {
+impl<K, V, A: Allocator> ColumnStore<K, V, A> {
     /// Makes a store of a vector of keys and a vector of as many values, where each key has the value at its index. Its room is
     /// the smaller of theirs. It takes no memory, and compares and moves no keys.
     ///
@@ -56,7 +56,7 @@ impl<K, V> ColumnStore<K, V> {
     /// let days = ColumnStore::from_columns(numbers, names);
     /// Ok(days.lm_get(1) == Some((&3, &"Wednesday")))
     /// ```
-    pub fn from_columns(keys: Vec<K>, values: Vec<V>) -> Self
+    pub fn from_columns(keys: Vec<K, A>, values: Vec<V, A>) -> Self
         requires { vec_len keys ≡ vec_len values }
         ensures { result ≡ columns keys values }
     {
@@ -71,17 +71,17 @@ impl<K, V> ColumnStore<K, V> {
     /// let (numbers, names) = days.into_columns();
     /// Ok(numbers.as_slice() == [1, 3].as_slice() && names.get(1) == Some(&"Wednesday"))
     /// ```
-    pub fn into_columns(self) -> (Vec<K>, Vec<V>)
-        ensures keys { result.0.items ≡ keys_of self.pairs }
-        ensures values { result.1.items ≡ values_of self.pairs }
+    pub fn into_columns(self) -> (Vec<K, A>, Vec<V, A>)
+        ensures keys { result.0.items ≡ keys_of self.entries }
+        ensures values { result.1.items ≡ values_of self.entries }
         ensures room { min (vec_room result.0) (vec_room result.1) ≡ self.room }
     {
         (self.keys, self.values)
     }
 }
 
-impl<K, V> Store<K, V> for ColumnStore<K, V> {
-    ghost pairs = { λ s. s.pairs };
+impl<K, V, A: Allocator> Store<K, V> for ColumnStore<K, V, A> {
+    ghost pairs = { λ s. s.entries };
 
     ghost room = { λ s. s.room };
 
@@ -107,27 +107,31 @@ impl<K, V> Store<K, V> for ColumnStore<K, V> {
     }
 }
 
-impl<K, V> StoreAlloc<K, V> for ColumnStore<K, V> {
-    fn lm_alloc(&self) -> Global {
+impl<K, V, A: Allocator + Copy> StoreIn<K, V> for ColumnStore<K, V, A> {
+    type Alloc = A;
+}
+
+impl<K, V, A: Allocator + Copy> StoreAlloc<K, V> for ColumnStore<K, V, A> {
+    fn lm_alloc(&self) -> A {
         *self.keys.allocator()
     }
 }
 
-impl<K, V> StoreConstEmpty<K, V> for ColumnStore<K, V> {
+impl<K, V, A: Allocator + Copy> StoreConstEmpty<K, V> for ColumnStore<K, V, A> {
     ghost empty_room = { λ room. room ≡ 0 };
 
-    fn lm_empty(alloc: Global) -> Self {
+    fn lm_empty(alloc: A) -> Self {
         let (keys, values) = (Vec::new(alloc), Vec::new(alloc));
         ColumnStore { keys, values }
     }
 }
 
-impl<K, V> StoreMut<K, V> for ColumnStore<K, V> {
+impl<K, V, A: Allocator + Copy> StoreMut<K, V> for ColumnStore<K, V, A> {
     ghost with_value = { with_value };
 
     ghost keeps_memory = { ⊤ };
 
-    fn lm_with_capacity(alloc: Global, capacity: usize) -> Result<Self, AllocError> {
+    fn lm_with_capacity(alloc: A, capacity: usize) -> Result<Self, AllocError> {
         let keys = Vec::with_capacity(alloc, capacity)?;
         match Vec::with_capacity(alloc, capacity) {
             Ok(values) => Ok(ColumnStore { keys, values }),
@@ -187,7 +191,7 @@ impl<K, V> StoreMut<K, V> for ColumnStore<K, V> {
         self.values.clear();
     }
 
-    fn lm_try_clone(&self, alloc: Global) -> Result<Self, AllocError>
+    fn lm_try_clone(&self, alloc: A) -> Result<Self, AllocError>
     where
         K: Clone,
         V: Clone,
@@ -206,7 +210,7 @@ impl<K, V> StoreMut<K, V> for ColumnStore<K, V> {
     ghost keeps_room = { λ s i v. refl };
 }
 
-impl<K: Drop, V: Drop> SwapStore<K, V> for ColumnStore<K, V> {
+impl<K: Drop, V: Drop, A: Allocator> SwapStore<K, V> for ColumnStore<K, V, A> {
     fn lm_pair(&self, index: usize) -> (&K, &V) {
         (&self.keys[index], &self.values[index])
     }
@@ -222,23 +226,23 @@ impl<K: Drop, V: Drop> SwapStore<K, V> for ColumnStore<K, V> {
     }
 }
 
-impl<K, V> KeepsMemory<K, V> for ColumnStore<K, V> {
+impl<K, V, A: Allocator + Copy> KeepsMemory<K, V> for ColumnStore<K, V, A> {
     ghost keeps = { tt };
 }
 
-impl<K: Ord + Drop, V: Drop> StoreBulkMut<K, V> for ColumnStore<K, V> {
+impl<K: Ord + Drop, V: Drop, A: Allocator + Copy> StoreBulkMut<K, V> for ColumnStore<K, V, A> {
     ghost fails_for_pairs_only = { ⊤ };
 
     fn lm_retain<F: FnMut(&K, &V) -> bool>(&mut self, mut f: F)
-        requires { CallableOnEach F.FnMut f self.old.pairs }
-        ensures kept { Kept F.FnMut f self.old.pairs self.new.pairs }
-        ensures memory { self.new.room + length self.new.pairs ≡ self.old.room + length self.old.pairs }
+        requires { CallableOnEach F.FnMut f self.old.entries }
+        ensures kept { Kept F.FnMut f self.old.entries self.new.entries }
+        ensures memory { self.new.room + length self.new.entries ≡ self.old.room + length self.old.entries }
     {
         retain(self, &mut f);
     }
 }
 
-impl<'a, K: 'a, V: 'a> StoreIterable<'a, K, V> for ColumnStore<K, V> {
+impl<'a, K: 'a, V: 'a, A: Allocator> StoreIterable<'a, K, V> for ColumnStore<K, V, A> {
     type KeyValueIter = ColumnIter<'a, K, V>;
 
     fn lm_iter(&'a self) -> ColumnIter<'a, K, V> {
@@ -246,11 +250,11 @@ impl<'a, K: 'a, V: 'a> StoreIterable<'a, K, V> for ColumnStore<K, V> {
     }
 }
 
-impl<K: Ord + Drop, V: Drop> StoreFromIterable<K, V> for ColumnStore<K, V> {
+impl<K: Ord + Drop, V: Drop, A: Allocator + Copy> StoreFromIterable<K, V> for ColumnStore<K, V, A> {
     ghost fails_for_pairs_only = { ⊤ };
 
     fn lm_sort_from_iter<I: IntoIterator<Item = (K, V)>>(
-        alloc: Global,
+        alloc: A,
         iter: I,
         count: &mut Count,
     ) -> Result<Self, AllocError> {
@@ -270,11 +274,11 @@ impl<K: Ord + Drop, V: Drop> StoreFromIterable<K, V> for ColumnStore<K, V> {
     }
 }
 
-impl<K: Drop, V: Drop> StoreFromIterator<K, V> for ColumnStore<K, V> {
+impl<K: Drop, V: Drop, A: Allocator + Copy> StoreFromIterator<K, V> for ColumnStore<K, V, A> {
     ghost fails_for_pairs_only = { ⊤ };
 
     fn lm_from_pairs<I: IntoIterator<Item = (K, V)>>(
-        alloc: Global,
+        alloc: A,
         iter: I,
     ) -> Result<Self, AllocError> {
         let (mut keys, mut values) = (Vec::new(alloc), Vec::new(alloc));
@@ -286,10 +290,10 @@ impl<K: Drop, V: Drop> StoreFromIterator<K, V> for ColumnStore<K, V> {
     }
 }
 
-impl<K: Drop, V: Drop> StoreIntoIterator<K, V> for ColumnStore<K, V> {
-    type KeyValueIntoIter = ColumnIntoIter<K, V>;
+impl<K: Drop, V: Drop, A: Allocator + Copy> StoreIntoIterator<K, V> for ColumnStore<K, V, A> {
+    type KeyValueIntoIter = ColumnIntoIter<K, V, A>;
 
-    fn lm_into_iter(self) -> ColumnIntoIter<K, V> {
+    fn lm_into_iter(self) -> ColumnIntoIter<K, V, A> {
         ColumnIntoIter::new(self.keys, self.values)
     }
 
@@ -304,7 +308,7 @@ impl<K: Drop, V: Drop> StoreIntoIterator<K, V> for ColumnStore<K, V> {
 }
 
 // Moves the items of another vector to the end of this one, whose capacity has room for them.
-fn append_reserved<T: Drop>(items: &mut Vec<T>, other: &mut Vec<T>)
+fn append_reserved<T: Drop, A: Allocator>(items: &mut Vec<T, A>, other: &mut Vec<T, A>)
     requires { vec_len items.old + vec_len other.old ≤ vec_capacity items.old }
     ensures items { items.new.items ≡ items.old.items ++ other.old.items }
     ensures len { vec_len items.new ≡ vec_len items.old + vec_len other.old }
@@ -312,8 +316,8 @@ fn append_reserved<T: Drop>(items: &mut Vec<T>, other: &mut Vec<T>)
     items.append(other).unwrap();
 }
 
-impl<K, V> StoreColumns<K, V> for ColumnStore<K, V> {
-    ghost with_values = { λ s values. with_pairs s (set_values s.pairs values) };
+impl<K, V, A: Allocator + Copy> StoreColumns<K, V> for ColumnStore<K, V, A> {
+    ghost with_values = { λ s values. with_pairs s (set_values s.entries values) };
 
     fn lm_columns(&self) -> (&[K], &[V]) {
         (self.keys.as_slice(), self.values.as_slice())

@@ -8,6 +8,7 @@ mod column_store;
 pub use column_iter::{ColumnIntoIter, ColumnIter};
 pub use column_store::ColumnStore;
 use litemap::LiteMap;
+use std::alloc::Global;
 
 /// A map over two columns: a vector of the keys and one of the values.
 ///
@@ -16,4 +17,4 @@ use litemap::LiteMap;
 /// days.insert(1, "Monday")?;
 /// Ok(days.get(&1) == Some(&"Monday"))
 /// ```
-pub type ColumnMap<K, V> = LiteMap<K, V, ColumnStore<K, V>>;
+pub type ColumnMap<K, V, A = Global> = LiteMap<K, V, ColumnStore<K, V, A>>;

@@ -5,10 +5,15 @@ pub mod ByPlace
 pub mod ByText
 pub mod Digits
 pub mod Elements
+pub mod FirstItem
 pub mod Floats
 pub mod OneMap
 pub mod Joined
+pub mod FromText
 pub mod NamedItems
 pub mod Printed
 pub mod Texts
+pub mod TextOrder
 pub mod Tokens
+pub mod Turns
+pub mod TwoTaken

@@ -50,7 +50,7 @@ module _ {N V : Type 0} (bytes : N → List ℕ) (json : V → Data) where
       let all = past p q M (λ l. cc) b in
       rw (e, back, all.0, all.1)
 
-  named-put : (p : N × V) (M : List (N × V)) → Rising name_cmp M → named bytes json (With p M) ≡ put (bytes p.0) (json p.1) (named bytes json M)
+  pub named-put : (p : N × V) (M : List (N × V)) → Rising name_cmp M → named bytes json (With p M) ≡ put (bytes p.0) (json p.1) (named bytes json M)
   named-put p [] r = refl
   named-put p (q ∷ M) r = put_at (name_cmp q.0 p.0) p q M refl r.0 (named-put p M r.1)
 

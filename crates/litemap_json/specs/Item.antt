@@ -1,11 +1,12 @@
 -- Which value of a type a JSON tree spells, or why it spells none, and which key a string spells. A value is seen as its tree.
 use Rattle.std.specs.Prelude.{◌≡◌, ◌≢◌, ℕ, ◌^◌, nat_lt, ℤ, pos, negsuc, List, Bool, true, false, if◌then◌else◌}
-use Rattle.std.specs.Prelude.{Option, Some, None, Result, Ok, Err, ok_or, option_map}
+use Rattle.std.specs.Prelude.{Option, Some, None, Result, Ok, Err, ok_or, option_and_then, option_map}
 use Rattle.std.specs.Fmt.{signed_decimal}
 use Rattle.std.specs.Str.{bytes_eq}
 use Rattle.std.specs.Str.Parse.{true_text, false_text, signed_digits_value}
 use Rattle.serde_json.specs.Data.{Num, Data, boolean, number, string, array, Items, no_items, item}
 use Rattle.serde_json.specs.Find.{as_number, as_integer, as_bool, as_str, of_integer}
+use Rattle.serde_json.specs.Read.{number_of}
 use Rattle.litemap_json.specs.declared.item.ItemFault.{ItemFault}
 use Rattle.litemap_json.specs.declared.item.ItemFault.TheVariants.{Shape, Range, Float}
 
@@ -38,13 +39,17 @@ or_float (Some n) = ok_or (as_integer n) Float
 abbrev pub whole_of : Data → Result ℤ ItemFault
 whole_of d = or_float (as_number d)
 
-abbrev in_range : (ℤ → Bool) → Result ℤ ItemFault → Result Data ItemFault
+abbrev pub in_range : (ℤ → Bool) → Result ℤ ItemFault → Result Data ItemFault
 in_range fits (Err e) = Err e
 in_range fits (Ok z) = if fits z then Ok (whole_json z) else Err Range
 
 -- a whole number that fits
 abbrev pub whole_item : (ℤ → Bool) → Data → Result Data ItemFault
 whole_item fits d = in_range fits (whole_of d)
+
+-- the whole number that the text of a JSON number is
+abbrev pub whole_text : List ℕ → Result ℤ ItemFault
+whole_text s = ok_or (option_and_then as_integer (number_of s)) Float
 
 -- the whole number whose decimal digits are s: no plus sign, no leading zeros, `-` only before a negative number
 abbrev pub whole_of_text : List ℕ → Option ℤ

@@ -6,5 +6,7 @@ pub mod Laws
 pub mod Digits
 pub mod Kinds
 pub mod OneTree
+pub mod Parse
+pub mod Taken
 pub mod Widths
 pub mod Written

@@ -2,6 +2,7 @@
 ghost use Rattle.std.specs.Prelude.{◌≡◌};
 ghost use Rattle.litemap_json.specs.declared.fault.WriteFault.TheVariants as writing;
 ghost use Rattle.litemap_json.specs.declared.fault.JsonFault.TheVariants as reading;
+ghost use Rattle.litemap_json.specs.declared.fault.TextFault.TheVariants as parsing;
 
 use crate::item::ItemFault;
 use std::alloc::AllocError;
@@ -72,6 +73,64 @@ pub enum JsonFault {
     },
 }
 
+/// Why a JSON text was not read as a map.
+///
+/// A `place` is the index of an object's member or an array's element, in the order of the text. It is the first one that spells
+/// no pair. Of a member or an element the name or the key comes before the item. That an element has a third value is seen after
+/// its item.
+///
+/// ```rust
+/// let read: Result<Hours, TextFault> = read_json(alloc, r#"{"3":300,"1":8}"#);
+/// let fault = ItemFault::Range;
+/// Ok(read.err() == Some(TextFault::Item { place: 0, fault }))
+/// ```
+#[derive(Debug, PartialEq, Drop, Error)]
+pub enum TextFault {
+    /// Memory ran out. It may come in place of any result but that of an empty text.
+    #[error("there is not enough memory")]
+    Memory,
+    /// The text begins with neither a bracket nor a brace.
+    #[error("a map is an object or an array of [key, item] arrays, and the text begins with neither")]
+    NotAMap,
+    /// Neither a name nor the closing brace stands where a member would begin.
+    #[error("neither a name nor the closing brace stands at place {place} (from 0)")]
+    NoName {
+        /// The member's index.
+        place: usize,
+    },
+    /// An array's element is not an array of exactly two.
+    #[error("the element at place {place} (from 0) is not an array of exactly a key and an item")]
+    NotAPair {
+        /// The element's index.
+        place: usize,
+    },
+    /// A member's name is no key's string.
+    #[error("the name of the member at place {place} (from 0, in the text's order) is not a key's text")]
+    KeyText {
+        /// The member's index.
+        place: usize,
+    },
+    /// The first value of an array's element is no key.
+    #[error("the key at place {place} (from 0): {fault}")]
+    Key {
+        /// The element's index.
+        place: usize,
+        /// Why it is no key.
+        fault: ItemFault,
+    },
+    /// A member's value, or the second value of an array's element, is no item.
+    #[error("the item at place {place} (from 0, in the text's order): {fault}")]
+    Item {
+        /// The index of the member or element.
+        place: usize,
+        /// Why it is no item.
+        fault: ItemFault,
+    },
+    /// Something follows the object or the array.
+    #[error("something follows the map")]
+    AfterMap,
+}
+
 impl From<AllocError> for WriteFault {
     ghost from_gives = { λ _ fault. fault ≡ writing.Memory };
 
@@ -85,6 +144,14 @@ impl From<AllocError> for JsonFault {
 
     fn from(_refused: AllocError) -> JsonFault {
         JsonFault::Memory
+    }
+}
+
+impl From<AllocError> for TextFault {
+    ghost from_gives = { λ _ fault. fault ≡ parsing.Memory };
+
+    fn from(_refused: AllocError) -> TextFault {
+        TextFault::Memory
     }
 }
 
@@ -123,6 +190,30 @@ impl From<JsonFault> for io::Error {
             JsonFault::KeyText { place: _ } => "a name in JSON is not a key's text",
             JsonFault::Key { place: _, fault: _ } => "a key in JSON is not of its type",
             JsonFault::Item { place: _, fault: _ } => "an item in JSON is not of its type",
+        };
+        io::Error::new(io::ErrorKind::InvalidData, words)
+    }
+}
+
+/// Lets `?` return it in a function that returns an `io::Result`. The index and the `ItemFault` are dropped: to show them, print
+/// the error first.
+impl From<TextFault> for io::Error {
+    ghost use Rattle.std.specs.Prelude.{◌≡◌};
+    ghost use Rattle.std.specs.IoError.{error_kind};
+    ghost use Rattle.litemap_json.specs.Kinds.{text_kind};
+
+    ghost from_gives = { λ fault e. error_kind e ≡ text_kind fault };
+
+    fn from(fault: TextFault) -> io::Error {
+        let words = match fault {
+            TextFault::Memory => return io::Error::from(AllocError),
+            TextFault::NotAMap => "a JSON text is no map",
+            TextFault::NoName { place: _ } => "a name is missing in JSON",
+            TextFault::NotAPair { place: _ } => "an element in JSON is not a key and an item",
+            TextFault::KeyText { place: _ } => "a name in JSON is not a key's text",
+            TextFault::Key { place: _, fault: _ } => "a key in JSON is not of its type",
+            TextFault::Item { place: _, fault: _ } => "an item in JSON is not of its type",
+            TextFault::AfterMap => "something follows a map in JSON",
         };
         io::Error::new(io::ErrorKind::InvalidData, words)
     }

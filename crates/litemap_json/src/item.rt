@@ -1,16 +1,19 @@
 //! What a type needs to be an item or a key of a map that is written as JSON.
-ghost use Rattle.std.specs.Prelude.{◌≡◌, ℕ, List, Option, Some, Result, Ok, IfOk, IfSome, OnOk, option_map, string_bytes};
+ghost use Rattle.std.specs.Prelude.{◌≡◌, ◌<◌, ◌≤◌, ℕ, List, length, Option, Some, Result, Ok, IfOk, IfSome, OnOk, option_map, string_bytes};
 ghost use Rattle.std.specs.declared.cmp.Ordering.TheVariants.{Equal};
 ghost use Rattle.std.specs.Fmt.{signed_decimal};
 ghost use Rattle.serde_json.specs.Data.{Data};
 ghost use Rattle.serde_json.specs.View.{view};
+ghost use Rattle.serde_json.specs.Read.{max_depth};
 ghost use Rattle.litemap_json.specs.Item.{Reads};
+ghost use Rattle.litemap_json.specs.Taken.{TakesItem, taken};
 ghost use Rattle.litemap_json.specs.Written.{WritesTree};
 ghost use Rattle.litemap_json.specs.declared.item.ItemFault.{ItemFault};
 ghost use Rattle.litemap_json.specs.declared.item.ItemFault.TheVariants.{Memory};
 
+use crate::next::next_value;
 use crate::written::write_value;
-use json::Writer;
+use json::{Reader, Writer};
 use serde_json::Value;
 use std::alloc::{AllocError, Global};
 use thiserror::Error;
@@ -30,6 +33,9 @@ pub enum ItemFault {
     /// It is a number with a fraction or an exponent, or one that is held as such: `-0`, or past 64 bits.
     #[error("it is a number with a fraction or an exponent, `-0`, or a number of more than 64 bits")]
     Float,
+    /// No JSON value stands there. It comes from reading a text alone.
+    #[error("no JSON value stands there")]
+    NoValue,
 }
 
 /// A type whose values are written as JSON, and read back.
@@ -60,6 +66,24 @@ pub trait JsonItem {
     {
         let value = self.to_value(alloc)?;
         write_value(alloc, &value, out)
+    }
+
+    /// Takes the next value of a JSON text from `reader`, and returns what it represents. Arrays and objects nest no deeper in it
+    /// than `depth`. By default it makes a `Value`, and calls `from_value`; override it to make none.
+    ///
+    /// # Errors
+    ///
+    /// If it is a number, a string, a boolean or `null`, the error is that of `from_value`. Of an array or an object it may be
+    /// that of a part, and if no value comes next, any. `Memory` may come in place of any result. After an error the reader may
+    /// stand anywhere.
+    #[tactic(auto, using(crate::proofs::FirstItem::value_taken, crate::proofs::FirstItem::no_value_taken))]
+    fn from_tokens(alloc: Global, reader: &mut Reader<'_>, depth: usize) -> Result<Self, ItemFault>
+        requires { depth ≤ max_depth }
+        ensures taken { TakesItem (λ x. (json x, reader.new)) (taken item depth reader.old) result }
+        ensures shorter { OnOk result (length reader.new < length reader.old) }
+    {
+        let value = next_value(alloc, reader, depth)?;
+        Self::from_value(alloc, &value)
     }
 
     /// Returns what a JSON value has to be to represent a value of the type, in words that `is wanted` can follow, for an error

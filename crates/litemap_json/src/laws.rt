@@ -1,5 +1,5 @@
 //! Laws over the definitions of `specs/`. Each function does nothing: its contract is the law.
-ghost use Rattle.litemap_json.specs.Laws.{OneReading, OneReadingByText};
+ghost use Rattle.litemap_json.specs.Laws.{OneReading, OneReadingByText, TextReading};
 
 use crate::item::{JsonItem, JsonKey};
 
@@ -14,4 +14,10 @@ pub fn one_reading<K: JsonKey, V: JsonItem>()
 pub fn one_reading_by_string<V: JsonItem>()
     ensures { OneReadingByText ⟦<String as Ord>⟧.cmp ⟦<String as JsonKey>⟧.key ⟦<String as JsonItem>⟧.item V.item
         ⟦<String as JsonItem>⟧.json V.json }
+{}
+
+/// A map that `read_json` reads from a text is one that `from_json` reads from the text's `Value`, if equal keys have one name
+/// (`OneName`): with `one_reading`, both have the same trees of keys and items, pair by pair.
+pub fn text_reading<K: JsonKey, V: JsonItem>()
+    ensures { TextReading K.cmp K.key K.item V.item K.json V.json }
 {}

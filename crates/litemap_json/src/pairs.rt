@@ -1,13 +1,17 @@
 //! Pairs of items, as arrays of two.
-ghost use Rattle.std.specs.Prelude.{◌≡◌, ◌++◌, ◌∷◌, ◌<◌, [], IfOk, None, OnOk, Some, length, option_map, slice_get};
+ghost use Rattle.std.specs.Prelude.{◌≡◌, ◌++◌, ◌∷◌, ◌<◌, ◌≤◌, [], IfOk, None, OnOk, Some, length, option_map, slice_get};
+ghost use Rattle.json.specs.Json.{after_end_array};
+ghost use Rattle.serde_json.specs.Read.{max_depth};
 ghost use Rattle.serde_json.specs.View.{view};
 ghost use Rattle.litemap_json.specs.Item.{pair_item, pair_json, two_of};
 ghost use Rattle.litemap_json.specs.OneTree.{pair_one_tree};
 ghost use Rattle.litemap_json.specs.Reading.{ReadsBack};
+ghost use Rattle.litemap_json.specs.Taken.{TakesItem, not_closed, taken, then_second, two_taken};
 ghost use Rattle.litemap_json.specs.Written.{WritesTree};
 
 use crate::item::{ItemFault, JsonItem, JsonKey};
-use json::Writer;
+use crate::next::{begin_array, end_array};
+use json::{Reader, Writer};
 use litemap::LiteMap;
 use litemap::store::Store;
 use serde_json::Value;
@@ -55,6 +59,50 @@ pub(crate) fn value_of_two<A: JsonItem, B: JsonItem>(
     array_of_two(alloc, first, second)
 }
 
+// Takes the two items of an array, of which the first bracket was taken, and its last bracket.
+fn two_in<A: JsonItem + Drop, B: JsonItem + Drop>(
+    alloc: Global,
+    reader: &mut Reader<'_>,
+    depth: usize,
+) -> Result<(A, B), ItemFault>
+    requires { depth ≤ max_depth }
+    ensures taken { TakesItem (λ p. (pair_json (A.json p.0) (B.json p.1), reader.new))
+        (two_taken A.item B.item depth reader.old) result }
+    ensures shorter { OnOk result (length reader.new < length reader.old) }
+{
+    if end_array(reader) {
+        return Err(ItemFault::Shape);
+    }
+    match A::from_tokens(alloc, reader, depth) {
+        Ok(first) => second_in(alloc, reader, depth, first),
+        Err(fault) => Err(fault),
+    }
+}
+
+fn second_in<A: JsonItem + Drop, B: JsonItem + Drop>(
+    alloc: Global,
+    reader: &mut Reader<'_>,
+    depth: usize,
+    first: A,
+) -> Result<(A, B), ItemFault>
+    requires { depth ≤ max_depth }
+    ensures taken { TakesItem (λ p. (pair_json (A.json p.0) (B.json p.1), reader.new))
+        (not_closed (after_end_array reader.old) (then_second (A.json first) (taken B.item depth reader.old))) result }
+    ensures shorter { OnOk result (length reader.new < length reader.old) }
+{
+    if end_array(reader) {
+        return Err(ItemFault::Shape);
+    }
+    let second = match B::from_tokens(alloc, reader, depth) {
+        Ok(second) => second,
+        Err(fault) => return Err(fault),
+    };
+    if !end_array(reader) {
+        return Err(ItemFault::Shape);
+    }
+    Ok((first, second))
+}
+
 /// Appends the array of two items to what a writer has. If memory runs out, some of it may be written.
 pub(crate) fn write_two<A: JsonItem, B: JsonItem>(
     alloc: Global,
@@ -74,8 +122,8 @@ pub(crate) fn write_two<A: JsonItem, B: JsonItem>(
 
 /// Returns the pair at an index within a map.
 pub(crate) fn pair_at<K: Ord, V, S: Store<K, V>>(map: &LiteMap<K, V, S>, place: usize) -> (&K, &V)
-    requires { place < length map.now.pairs }
-    ensures { Some (result.0.now, result.1.now) ≡ slice_get map.now.pairs place }
+    requires { place < length map.now.entries }
+    ensures { Some (result.0.now, result.1.now) ≡ slice_get map.now.entries place }
 {
     map.get_indexed(place).unwrap()
 }
@@ -104,6 +152,21 @@ impl<A: JsonItem + Drop, B: JsonItem + Drop> JsonItem for (A, B) {
             return Err(ItemFault::Shape);
         };
         Ok((A::from_value(alloc, first)?, B::from_value(alloc, second)?))
+    }
+
+    #[tactic(auto, using(crate::proofs::TwoTaken::no_pair, crate::proofs::TwoTaken::too_deep))]
+    fn from_tokens(
+        alloc: Global,
+        reader: &mut Reader<'_>,
+        depth: usize,
+    ) -> Result<(A, B), ItemFault> {
+        if let Err(fault) = begin_array(reader) {
+            return Err(fault);
+        }
+        if depth == 0 {
+            return Err(ItemFault::NoValue);
+        }
+        two_in(alloc, reader, depth - 1)
     }
 
     fn write_to(&self, alloc: Global, out: &mut Writer) -> Result<(), AllocError> {

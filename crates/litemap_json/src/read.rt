@@ -34,12 +34,12 @@ use std::alloc::Global;
 /// let hours: Hours = from_json(alloc, &value)?;
 /// Ok(hours.as_slice() == [(3, 8), (10, 9)].as_slice())
 /// ```
-pub fn from_json<K: JsonKey + Drop, V: JsonItem + Drop, S: StoreBulkMut<K, V>>(
+pub fn from_json<K: JsonKey + Drop, V: JsonItem + Drop, S: StoreBulkMut<K, V, Alloc = Global>>(
     alloc: Global,
     value: &Value,
 ) -> Result<LiteMap<K, V, S>, JsonFault>
     ensures read { IfOk result
-        (λ map. ReadsAs K.cmp K.key K.item V.item K.json V.json (view value.now) map.pairs) }
+        (λ map. ReadsAs K.cmp K.key K.item V.item K.json V.json (view value.now) map.entries) }
     ensures error { IfErr result
         (λ e. e ≢ reading.Memory → pairs K.key K.item V.item (view value.now) ≡ Err e) }
     ensures refused_some { IfErr result (λ e. e ≡ reading.Memory → HasElements (view value.now)) }

@@ -1,5 +1,5 @@
 //! Booleans and strings.
-ghost use Rattle.std.specs.Prelude.{◌≡◌, ◌≢◌, Some, Ok, Err, IfOk, IfSome, IsOk, OnOk, option_map, string_bytes};
+ghost use Rattle.std.specs.Prelude.{◌≡◌, ◌≢◌, Some, Ok, Err, IfOk, IfSome, IsOk, MatchResult, OnOk, option_map, string_bytes};
 ghost use Rattle.serde_json.specs.Data.{boolean, string};
 ghost use Rattle.serde_json.specs.View.{view};
 ghost use Rattle.litemap_json.specs.Item.{Reads, bool_item, bool_key, bool_text, text_item};
@@ -7,7 +7,8 @@ ghost use Rattle.litemap_json.specs.OneTree.{bool_one_tree, text_one_tree};
 ghost use Rattle.litemap_json.specs.declared.item.ItemFault.TheVariants.{Memory};
 
 use crate::item::{ItemFault, JsonItem, JsonKey};
-use json::Writer;
+use crate::next::{next_boolean, next_string};
+use json::{Reader, Writer};
 use serde_json::Value;
 use std::alloc::{AllocError, Global};
 
@@ -30,6 +31,15 @@ impl JsonItem for bool {
         ensures no_memory { result ≢ Err Memory }
     {
         value.as_bool().ok_or(ItemFault::Shape)
+    }
+
+    #[tactic(auto, using(crate::proofs::FirstItem::flag_taken))]
+    fn from_tokens(
+        _alloc: Global,
+        reader: &mut Reader<'_>,
+        _depth: usize,
+    ) -> Result<bool, ItemFault> {
+        next_boolean(reader)
     }
 
     fn write_to(&self, _alloc: Global, out: &mut Writer) -> Result<(), AllocError> {
@@ -78,7 +88,19 @@ impl JsonItem for String {
     fn from_value(alloc: Global, value: &Value) -> Result<String, ItemFault> {
         match value.as_str() {
             None => Err(ItemFault::Shape),
-            Some(text) => String::from_str(alloc, text).map_err(|_| ItemFault::Memory),
+            Some(text) => copy_of(alloc, text),
+        }
+    }
+
+    #[tactic(auto, using(crate::proofs::FirstItem::no_text))]
+    fn from_tokens(
+        alloc: Global,
+        reader: &mut Reader<'_>,
+        _depth: usize,
+    ) -> Result<String, ItemFault> {
+        match next_string(reader) {
+            Ok(text) => copy_of(alloc, text),
+            Err(fault) => Err(fault),
         }
     }
 
@@ -105,4 +127,10 @@ impl JsonKey for String {
     }
 
     ghost one_tree = { text_one_tree };
+}
+
+fn copy_of(alloc: Global, text: &str) -> Result<String, ItemFault>
+    ensures { MatchResult result (λ copy. string_bytes copy ≡ text.now) (λ e. e ≡ Memory) }
+{
+    String::from_str(alloc, text).map_err(|_| ItemFault::Memory)
 }

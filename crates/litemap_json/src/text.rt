@@ -37,9 +37,9 @@ pub fn write_json<K: JsonKey, V: JsonItem, S: Store<K, V>>(
     alloc: Global,
     map: &LiteMap<K, V, S>,
 ) -> Result<String, WriteFault>
-    ensures text { IfOk result (λ text. (d : Data) × (tree K.text K.json V.json map.now.pairs ≡ Ok d)
+    ensures text { IfOk result (λ text. (d : Data) × (tree K.text K.json V.json map.now.entries ≡ Ok d)
         × IsTextOf d (string_bytes text)) }
-    ensures error { IfErr result (λ fault. fault ≢ Memory → tree K.text K.json V.json map.now.pairs ≡ Err fault) }
+    ensures error { IfErr result (λ fault. fault ≢ Memory → tree K.text K.json V.json map.now.entries ≡ Err fault) }
 {
     let Some((first, _)) = map.first() else {
         return Ok(array_text(alloc, map)?);
@@ -60,7 +60,7 @@ fn array_text<K: JsonKey, V: JsonItem, S: Store<K, V>>(
     alloc: Global,
     map: &LiteMap<K, V, S>,
 ) -> Result<String, AllocError>
-    ensures { IfOk result (λ text. IsTextOf (array (rows K.text K.json V.json map.now.pairs)) (string_bytes text)) }
+    ensures { IfOk result (λ text. IsTextOf (array (rows K.text K.json V.json map.now.entries)) (string_bytes text)) }
 {
     let mut out = writer(alloc, map.len())?;
     out.begin_array()?;
@@ -78,10 +78,10 @@ fn object_text<K: JsonKey, V: JsonItem, S: Store<K, V>>(
     map: &LiteMap<K, V, S>,
 ) -> Result<Option<String>, WriteFault>
     ensures text { IfOk result (λ made. IfSome made
-        (λ text. (d : Data) × (object_with K.text K.json V.json 0 no_members map.now.pairs ≡ Ok d)
+        (λ text. (d : Data) × (object_with K.text K.json V.json 0 no_members map.now.entries ≡ Ok d)
         × IsTextOf d (string_bytes text))) }
     ensures error { IfErr result
-        (λ fault. fault ≢ Memory → object_with K.text K.json V.json 0 no_members map.now.pairs ≡ Err fault) }
+        (λ fault. fault ≢ Memory → object_with K.text K.json V.json 0 no_members map.now.entries ≡ Err fault) }
 {
     let mut out = writer(alloc, map.len())?;
     out.begin_object()?;
@@ -106,10 +106,10 @@ fn by_name<'m, N: Name, K: JsonKey, V: JsonItem, S: Store<K, V>>(
     alloc: Global,
     map: &'m LiteMap<K, V, S>,
 ) -> Result<VecMap<N, &'m V>, WriteFault>
-    ensures named { IfOk result (λ items. object_with K.text K.json V.json 0 no_members map.now.pairs
-        ≡ Ok (object (named N.bytes (λ item. V.json item.now) items.pairs))) }
+    ensures named { IfOk result (λ items. object_with K.text K.json V.json 0 no_members map.now.entries
+        ≡ Ok (object (named N.bytes (λ item. V.json item.now) items.entries))) }
     ensures error { IfErr result
-        (λ fault. fault ≢ Memory → object_with K.text K.json V.json 0 no_members map.now.pairs ≡ Err fault) }
+        (λ fault. fault ≢ Memory → object_with K.text K.json V.json 0 no_members map.now.entries ≡ Err fault) }
 {
     let mut items = Vec::with_capacity(alloc, map.len())?;
     for place in 0..map.len() {
@@ -131,7 +131,7 @@ fn named_text<N: Name, V: JsonItem>(
     items: &VecMap<N, &V>,
 ) -> Result<String, AllocError>
     ensures { IfOk result
-        (λ text. IsTextOf (object (named N.bytes (λ item. V.json item.now) items.now.pairs)) (string_bytes text)) }
+        (λ text. IsTextOf (object (named N.bytes (λ item. V.json item.now) items.now.entries)) (string_bytes text)) }
 {
     let mut out = writer(alloc, items.len())?;
     out.begin_object()?;

@@ -1,16 +1,20 @@
 //! Whole numbers of eight types, as items and as keys.
-ghost use Rattle.std.specs.Prelude.{◌≡◌, ◌≢◌, true, Some, Err, IfOk, IfSome, IsOk, OnOk, Ok, option_map, refl, string_bytes};
+ghost use Rattle.std.specs.Prelude.{◌≡◌, ◌≢◌, ◌<◌, ◌==◌, IsTrue, length, option_and_then, slice_index, false, true, Some, Err, IfOk, IfSome, IsOk, OnOk, Ok, option_map, refl, string_bytes};
 ghost use Rattle.std.specs.Fmt.{signed_decimal};
 ghost use Rattle.std.specs.Int.{w8, w16, w32, w64};
+ghost use Rattle.serde_json.specs.Find.{as_integer};
+ghost use Rattle.serde_json.specs.Read.{number_from, number_of};
 ghost use Rattle.serde_json.specs.View.{view};
-ghost use Rattle.litemap_json.specs.Item.{Reads, kept, signed_fits, whole_item, whole_json, whole_key, whole_of, whole_of_text};
+ghost use Rattle.litemap_json.specs.Item.{Reads, in_range, kept, signed_fits, whole_item, whole_json, whole_key, whole_of, whole_of_text, whole_text};
 ghost use Rattle.litemap_json.specs.Widths.{IsWhole, WholeType, signed, signed_is_whole, unsigned, unsigned_is_whole};
 ghost use Rattle.litemap_json.specs.declared.item.ItemFault.TheVariants.{Memory};
 
 use crate::item::{ItemFault, JsonItem, JsonKey};
+use crate::next::next_number;
 use crate::written::write_value;
+use fast_float::Numeral;
 use itoa::Buffer;
-use json::Writer;
+use json::{Reader, Writer};
 use serde_json::{Number, Value};
 use std::alloc::{AllocError, Global};
 use std::num::TryFromIntError;
@@ -61,6 +65,14 @@ impl<T: Whole> JsonItem for T {
         ensures no_memory { result ≢ Err Memory }
     {
         T::narrow(whole_number(value)?).ok_or(ItemFault::Range)
+    }
+
+    #[tactic(auto, using(crate::proofs::FirstItem::no_whole))]
+    fn from_tokens(_alloc: Global, reader: &mut Reader<'_>, _depth: usize) -> Result<T, ItemFault> {
+        match next_number(reader) {
+            Ok(text) => fitting(text),
+            Err(fault) => Err(fault),
+        }
     }
 
     fn write_to(&self, alloc: Global, out: &mut Writer) -> Result<(), AllocError> {
@@ -210,6 +222,55 @@ fn whole_number(value: &Value) -> Result<i128, ItemFault>
         return Err(ItemFault::Shape);
     };
     number.as_i128().ok_or(ItemFault::Float)
+}
+
+// Returns the type's value for the whole number that a number's text is.
+fn fitting<T: Whole>(text: &str) -> Result<T, ItemFault>
+    ensures { Reads Memory (λ x. whole_json (T.kind.number x)) (in_range T.kind.fits (whole_text text.now)) result }
+{
+    let Some(number) = whole_in(text) else {
+        return Err(ItemFault::Float);
+    };
+    T::narrow(number).ok_or(ItemFault::Range)
+}
+
+// Returns the whole number that a number's text is, if 64 bits hold it.
+fn whole_in(text: &str) -> Option<i128>
+    ensures { result ≡ option_and_then as_integer (number_of text.now) }
+{
+    let bytes = text.as_bytes();
+    if has_minus(bytes) {
+        negative_in(&Numeral::scan(&bytes[1..]))
+    } else {
+        unsigned_in(&Numeral::scan(bytes))
+    }
+}
+
+fn has_minus(bytes: &[u8]) -> bool
+    ensures value { result ≡ (slice_index bytes.now 0 == 45) }
+    ensures len { IsTrue result → 0 < length bytes.now }
+{
+    !bytes.is_empty() && bytes[0] == b'-'
+}
+
+#[tactic(auto, using(crate::proofs::FirstItem::no_whole_float))]
+fn negative_in(numeral: &Numeral<'_>) -> Option<i128>
+    ensures { result ≡ option_and_then as_integer (number_from true numeral.now) }
+{
+    match numeral.to_i64(true) {
+        Some(number) if number < 0 => Some(i128::from(number)),
+        _ => None,
+    }
+}
+
+#[tactic(auto, using(crate::proofs::FirstItem::no_whole_float))]
+fn unsigned_in(numeral: &Numeral<'_>) -> Option<i128>
+    ensures { result ≡ option_and_then as_integer (number_from false numeral.now) }
+{
+    match numeral.to_u64() {
+        Some(number) => Some(i128::from(number)),
+        None => None,
+    }
 }
 
 // Returns the decimal digits of an integer. One of 64 bits is printed as such, which takes less time.

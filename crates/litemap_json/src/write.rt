@@ -31,11 +31,11 @@ pub fn to_json<K: JsonKey, V: JsonItem, S: Store<K, V>>(
     alloc: Global,
     map: &LiteMap<K, V, S>,
 ) -> Result<Value, WriteFault>
-    ensures tree { IfOk result (λ value. tree K.text K.json V.json map.now.pairs ≡ Ok (view value)) }
-    ensures error { IfErr result (λ fault. fault ≢ Memory → tree K.text K.json V.json map.now.pairs ≡ Err fault) }
-    ensures refused_some { OnErr result (map.now.pairs ≢ []) }
+    ensures tree { IfOk result (λ value. tree K.text K.json V.json map.now.entries ≡ Ok (view value)) }
+    ensures error { IfErr result (λ fault. fault ≢ Memory → tree K.text K.json V.json map.now.entries ≡ Err fault) }
+    ensures refused_some { OnErr result (map.now.entries ≢ []) }
     ensures reads_back { IfOk result
-        (λ value. ReadsAs K.cmp K.key K.item V.item K.json V.json (view value) map.now.pairs) }
+        (λ value. ReadsAs K.cmp K.key K.item V.item K.json V.json (view value) map.now.entries) }
 {
     if let Some((first, item)) = map.first() {
         if let Some(name) = first.key_text(alloc)? {
@@ -49,10 +49,10 @@ fn array_of<K: JsonKey, V: JsonItem, S: Store<K, V>>(
     alloc: Global,
     map: &LiteMap<K, V, S>,
 ) -> Result<Value, AllocError>
-    ensures tree { IfOk result (λ value. view value ≡ array (rows K.text K.json V.json map.now.pairs)) }
-    ensures refused_some { OnErr result (map.now.pairs ≢ []) }
-    ensures reads_back { OnOk result (AllReadBack K.item V.item K.json V.json map.now.pairs) }
-    ensures rising { Rising K.cmp map.now.pairs }
+    ensures tree { IfOk result (λ value. view value ≡ array (rows K.text K.json V.json map.now.entries)) }
+    ensures refused_some { OnErr result (map.now.entries ≢ []) }
+    ensures reads_back { OnOk result (AllReadBack K.item V.item K.json V.json map.now.entries) }
+    ensures rising { Rising K.cmp map.now.entries }
 {
     let len = map.len();
     let mut list = Vec::with_capacity(alloc, len)?;
@@ -70,13 +70,13 @@ fn object_of<K: JsonKey, V: JsonItem, S: Store<K, V>>(
     name: String,
     item: &V,
 ) -> Result<Value, WriteFault>
-    requires { IsFirst K.text K.key K.json map.now.pairs (string_bytes name) item.now }
+    requires { IsFirst K.text K.key K.json map.now.entries (string_bytes name) item.now }
     ensures tree { IfOk result
-        (λ value. object_with K.text K.json V.json 0 no_members map.now.pairs ≡ Ok (view value)) }
+        (λ value. object_with K.text K.json V.json 0 no_members map.now.entries ≡ Ok (view value)) }
     ensures error { IfErr result
-        (λ fault. fault ≢ Memory → object_with K.text K.json V.json 0 no_members map.now.pairs ≡ Err fault) }
+        (λ fault. fault ≢ Memory → object_with K.text K.json V.json 0 no_members map.now.entries ≡ Err fault) }
     ensures reads_back { IfOk result
-        (λ value. ReadsAs K.cmp K.key K.item V.item K.json V.json (view value) map.now.pairs) }
+        (λ value. ReadsAs K.cmp K.key K.item V.item K.json V.json (view value) map.now.entries) }
 {
     let mut members = Map::new(alloc);
     put_member(&mut members, name, item.to_value(alloc)?)?;

@@ -1,8 +1,11 @@
 //! Calls of a map as values, and what they return.
 
+use std::alloc::{Allocator, Global};
+
 /// A call of a map, with its arguments.
-#[derive(Debug, PartialEq, Drop)]
-pub enum Call<K, V> {
+#[derive(Drop)]
+#[derive_where(Debug, PartialEq; K, V)]
+pub enum Call<K, V, A: Allocator = Global> {
     /// Looks up the value of a key.
     Get(K),
     /// Looks up the value at an index.
@@ -22,7 +25,7 @@ pub enum Call<K, V> {
     /// Removes a key.
     Remove(K),
     /// Extends the map by pairs, of which the last of each key stays.
-    Extend(Vec<(K, V)>),
+    Extend(Vec<(K, V), A>),
     /// Reserves spare capacity for at least this many pairs.
     Reserve(usize),
     /// Drops all pairs.

@@ -7,17 +7,17 @@ ghost use Rattle.litemap_read.specs.declared.calls.Call.TheVariants.{Extend};
 pub use crate::calls::{Answer, Call};
 use litemap::LiteMap;
 use litemap::store::{NoRoom, StoreBulkMut};
-use std::alloc::Global;
+use std::alloc::Allocator;
 
 /// Makes the calls of a list one after another, and returns what each of them returned (own).
 ///
 /// A call that fails because memory runs out returns `NoRoom`, and the run goes on. The memory for what the calls return is
 /// taken before the first one: if that fails, no call was made, and the calls are returned.
 pub fn run_calls<K: Ord + Drop, V: Copy, S: StoreBulkMut<K, V>>(
-    alloc: Global,
+    alloc: S::Alloc,
     map: &mut LiteMap<K, V, S>,
-    calls: Vec<Call<K, V>>,
-) -> Result<Vec<Answer<K, V>>, NoRoom<Vec<Call<K, V>>>>
+    calls: Vec<Call<K, V, S::Alloc>, S::Alloc>,
+) -> Result<Vec<Answer<K, V>, S::Alloc>, NoRoom<Vec<Call<K, V, S::Alloc>, S::Alloc>>>
     ensures run { IfOk result (λ answers. Run K.cmp map.old calls.items answers.items map.new) }
     ensures back { IfErr result (λ refused. refused.back ≡ calls) }
     ensures unchanged { OnErr result (map.new ≡ map.old) }
@@ -33,14 +33,14 @@ pub fn run_calls<K: Ord + Drop, V: Copy, S: StoreBulkMut<K, V>>(
 
 /// Maps with the same list return the same from the same calls and end with the same list, whatever their stores, if no call
 /// fails.
-pub fn same_results<K: Ord, V>()
-    ensures { SameResults K.cmp V }
+pub fn same_results<K: Ord, V, A: Allocator>()
+    ensures { SameResults K.cmp V A }
 {}
 
 fn answer<K: Ord + Drop, V: Copy, S: StoreBulkMut<K, V>>(
-    alloc: Global,
+    alloc: S::Alloc,
     map: &mut LiteMap<K, V, S>,
-    call: Call<K, V>,
+    call: Call<K, V, S::Alloc>,
 ) -> Answer<K, V>
     ensures { Step K.cmp map.old call result map.new }
 {
@@ -76,9 +76,9 @@ fn answer<K: Ord + Drop, V: Copy, S: StoreBulkMut<K, V>>(
 }
 
 fn extend<K: Ord + Drop, V: Copy, S: StoreBulkMut<K, V>>(
-    alloc: Global,
+    alloc: S::Alloc,
     map: &mut LiteMap<K, V, S>,
-    pairs: Vec<(K, V)>,
+    pairs: Vec<(K, V), S::Alloc>,
 ) -> Answer<K, V>
     ensures { Step K.cmp map.old (Extend pairs) result map.new }
 {

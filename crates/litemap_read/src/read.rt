@@ -11,7 +11,7 @@ ghost use Rattle.litemap_read.specs.Source.{IsAsked, IsLater};
 use crate::{PairSource, ReadFault};
 use litemap::LiteMap;
 use litemap::store::{StoreBulkMut, StoreMut};
-use std::alloc::{AllocError, Global};
+use std::alloc::{AllocError, Allocator};
 
 /// The most pairs for which a source's hint reserves capacity.
 const MOST_HINTED: usize = 65_536;
@@ -36,10 +36,10 @@ const MOST_HINTED: usize = 65_536;
 /// Ok(languages.get("fr") == Some(&"French"))
 /// ```
 pub fn read_pairs<K: Ord + Drop, V: Drop, S: StoreBulkMut<K, V>, P: PairSource<K, V>>(
-    alloc: Global,
+    alloc: S::Alloc,
     source: &mut P,
 ) -> Result<LiteMap<K, V, S>, ReadFault<P::Fault>>
-    ensures read { IfOk result (λ map. IsGathered K.cmp (P.gives source.old) [] map.pairs) }
+    ensures read { IfOk result (λ map. IsGathered K.cmp (P.gives source.old) [] map.entries) }
     ensures asked { IsAsked P.gives P.left P.allows P.ends P.leads source.old source.new result }
 {
     let mut map = with_hint(alloc, source.hint());
@@ -71,12 +71,12 @@ pub fn read_pairs<K: Ord + Drop, V: Drop, S: StoreBulkMut<K, V>, P: PairSource<K
 /// Ok(languages.len() == 2 && languages.get("it") == Some(&"Italian"))
 /// ```
 pub fn extend_from_source<K: Ord + Drop, V: Drop, S: StoreBulkMut<K, V>, P: PairSource<K, V>>(
-    alloc: Global,
+    alloc: S::Alloc,
     map: &mut LiteMap<K, V, S>,
     source: &mut P,
 ) -> Result<(), ReadFault<P::Fault>>
-    ensures read { OnOk result (IsGathered K.cmp (P.gives source.old) map.old.pairs map.new.pairs) }
-    ensures unchanged { OnErr result (map.new.pairs ≡ map.old.pairs) }
+    ensures read { OnOk result (IsGathered K.cmp (P.gives source.old) map.old.entries map.new.entries) }
+    ensures unchanged { OnErr result (map.new.entries ≡ map.old.entries) }
     ensures asked { IsAsked P.gives P.left P.allows P.ends P.leads source.old source.new result }
 {
     let pairs = drain(alloc, source)?;
@@ -104,9 +104,9 @@ pub fn read_results<
     E: Drop,
     S: StoreBulkMut<K, V>,
     I: IntoIterator<Item = Result<(K, V), E>>,
->(alloc: Global, iter: I) -> Result<LiteMap<K, V, S>, ReadFault<E>>
+>(alloc: S::Alloc, iter: I) -> Result<LiteMap<K, V, S>, ReadFault<E>>
     requires { IsFiniteIterable I.into_iter_gives I.IntoIter.can_next I.IntoIter.remaining iter }
-    ensures read { IfOk result (λ map. IsGathered K.cmp (GivesPairs I.into_iter_gives I.IntoIter.next_gives iter) [] map.pairs) }
+    ensures read { IfOk result (λ map. IsGathered K.cmp (GivesPairs I.into_iter_gives I.IntoIter.next_gives iter) [] map.entries) }
     ensures error { IfErr result (λ error. IfSource error (GivesFault I.into_iter_gives I.IntoIter.next_gives iter)) }
     ensures refused_some { IfErr result (λ error. error ≡ NoRoom → GivesSome I.into_iter_gives I.IntoIter.next_gives iter) }
 {
@@ -123,10 +123,10 @@ pub fn read_results<
 }
 
 // Reads the source to its end, and returns its pairs. On the source's error, or if memory runs out, the pairs read are dropped.
-fn drain<K: Drop, V: Drop, P: PairSource<K, V>>(
-    alloc: Global,
+fn drain<K: Drop, V: Drop, P: PairSource<K, V>, A: Allocator + Copy>(
+    alloc: A,
     source: &mut P,
-) -> Result<Vec<(K, V)>, ReadFault<P::Fault>>
+) -> Result<Vec<(K, V), A>, ReadFault<P::Fault>>
     ensures given { IfOk result (λ pairs. P.gives source.old pairs.items) }
     ensures rest { IsLater P.gives source.old source.new }
     ensures fewer { IfOk result (λ pairs. vec_len pairs ≤ P.left source.old) }
@@ -143,7 +143,7 @@ fn drain<K: Drop, V: Drop, P: PairSource<K, V>>(
 }
 
 // An empty vector with capacity for what a hint promises, up to a limit, or with none if memory runs out.
-fn vec_with_hint<T: Drop>(alloc: Global, hint: Option<usize>) -> Vec<T>
+fn vec_with_hint<T: Drop, A: Allocator + Copy>(alloc: A, hint: Option<usize>) -> Vec<T, A>
     ensures { result.items ≡ [] }
 {
     let capacity = hint.unwrap_or(0).min(MOST_HINTED);
@@ -151,7 +151,7 @@ fn vec_with_hint<T: Drop>(alloc: Global, hint: Option<usize>) -> Vec<T>
 }
 
 // Pushes an item, or drops it if memory runs out.
-fn push<T: Drop>(items: &mut Vec<T>, item: T) -> Result<(), AllocError>
+fn push<T: Drop, A: Allocator>(items: &mut Vec<T, A>, item: T) -> Result<(), AllocError>
     ensures { OnOk result (items.new.items ≡ items.old.items ++ item ∷ []) }
 {
     items.push(item)?;
@@ -159,8 +159,8 @@ fn push<T: Drop>(items: &mut Vec<T>, item: T) -> Result<(), AllocError>
 }
 
 // An empty map with capacity for what a hint promises, up to a limit, or with none if memory runs out.
-fn with_hint<K: Ord, V, S: StoreMut<K, V>>(alloc: Global, hint: Option<usize>) -> LiteMap<K, V, S>
-    ensures { result.pairs ≡ [] }
+fn with_hint<K: Ord, V, S: StoreMut<K, V>>(alloc: S::Alloc, hint: Option<usize>) -> LiteMap<K, V, S>
+    ensures { result.entries ≡ [] }
 {
     let capacity = hint.unwrap_or(0).min(MOST_HINTED);
     LiteMap::with_capacity(alloc, capacity)
@@ -169,14 +169,14 @@ fn with_hint<K: Ord, V, S: StoreMut<K, V>>(alloc: Global, hint: Option<usize>) -
 }
 
 // Appends a pair to the map if its key is above all others, and else to the pairs put aside.
-fn append_or_defer<K: Ord + Drop, V: Drop, S: StoreMut<K, V>>(
+fn append_or_defer<K: Ord + Drop, V: Drop, S: StoreMut<K, V>, A: Allocator>(
     map: &mut LiteMap<K, V, S>,
-    aside: &mut Vec<(K, V)>,
+    aside: &mut Vec<(K, V), A>,
     key: K,
     value: V,
 ) -> Result<(), AllocError>
-    ensures { OnOk result (Sifted K.cmp V map.old.pairs aside.old.items ((key, value) ∷ [])
-        map.new.pairs aside.new.items) }
+    ensures { OnOk result (Sifted K.cmp V map.old.entries aside.old.items ((key, value) ∷ [])
+        map.new.entries aside.new.items) }
 {
     if let Some(pair) = map.try_append(key, value)? {
         aside.push(pair)?;

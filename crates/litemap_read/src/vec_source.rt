@@ -2,6 +2,7 @@
 ghost use Rattle.std.specs.Prelude.{◌≡◌, Some, length, ⊤};
 
 use crate::PairSource;
+use std::alloc::{Allocator, Global};
 use std::marker::Model;
 use std::vec::IntoIter;
 
@@ -11,11 +12,11 @@ pub struct NoFault;
 
 /// A source of the pairs of a vector, in their order. It never fails. A contract sees it as the list of the pairs left.
 #[derive(Drop)]
-pub struct VecSource<K, V> {
-    rest: IntoIter<(K, V)>,
+pub struct VecSource<K, V, A: Allocator = Global> {
+    rest: IntoIter<(K, V), A>,
 }
 
-impl<K, V> Model for VecSource<K, V> {
+impl<K, V, A: Allocator> Model for VecSource<K, V, A> {
     ghost use Rattle.std.specs.Prelude.{List};
     ghost use Rattle.std.specs.Vec.Iter.{into_iter_items};
 
@@ -24,9 +25,9 @@ impl<K, V> Model for VecSource<K, V> {
     ghost view = { λ s. into_iter_items s.rest };
 }
 
-impl<K, V> VecSource<K, V> {
+impl<K, V, A: Allocator> VecSource<K, V, A> {
     /// Makes a source of a vector's pairs. It takes no memory.
-    pub fn new(pairs: Vec<(K, V)>) -> Self
+    pub fn new(pairs: Vec<(K, V), A>) -> Self
         ensures { result ≡ pairs.items }
     {
         VecSource {
@@ -35,7 +36,7 @@ impl<K, V> VecSource<K, V> {
     }
 }
 
-impl<K: Drop, V: Drop> PairSource<K, V> for VecSource<K, V> {
+impl<K: Drop, V: Drop, A: Allocator> PairSource<K, V> for VecSource<K, V, A> {
     type Fault = NoFault;
 
     ghost gives = { λ s pairs. pairs ≡ s };

@@ -23,10 +23,10 @@ use std::ops::Deref;
 #[derive(Drop)]
 pub struct SerdeMap<K: Ord, V, S: Store<K, V>>(pub LiteMap<K, V, S>);
 
-impl<K: Ord, V, S: StoreConstEmpty<K, V>> MadeWith<Global> for SerdeMap<K, V, S> {
-    ghost is_made_with = { λ holder. holder.0.pairs ≡ [] };
+impl<K: Ord, V, S: StoreConstEmpty<K, V>> MadeWith<S::Alloc> for SerdeMap<K, V, S> {
+    ghost is_made_with = { λ holder. holder.0.entries ≡ [] };
 
-    fn made_with(alloc: Global) -> Self {
+    fn made_with(alloc: S::Alloc) -> Self {
         SerdeMap(LiteMap::new(alloc))
     }
 }
@@ -58,7 +58,7 @@ impl<K: Ord, V, S: Store<K, V>> From<SerdeMap<K, V, S>> for LiteMap<K, V, S> {
 }
 
 impl<K: Described + Ord, V: Described, S: Store<K, V>> Described for SerdeMap<K, V, S> {
-    ghost writes = { λ m. WritesMap K.writes V.writes m.0.pairs };
+    ghost writes = { λ m. WritesMap K.writes V.writes m.0.entries };
 }
 
 impl<K: Serialize + Ord, V: Serialize, S: Store<K, V>> Serialize for SerdeMap<K, V, S> {
@@ -67,8 +67,12 @@ impl<K: Serialize + Ord, V: Serialize, S: Store<K, V>> Serialize for SerdeMap<K,
     }
 }
 
-impl<'de, K: Deserialize<'de> + Ord, V: Deserialize<'de>, S: StoreBulkMut<K, V>> Deserialize<'de>
-    for SerdeMap<K, V, S> {
+impl<
+    'de,
+    K: Deserialize<'de> + Ord,
+    V: Deserialize<'de>,
+    S: StoreBulkMut<K, V, Alloc = Global>,
+> Deserialize<'de> for SerdeMap<K, V, S> {
     fn deserialize<F: Format>(
         alloc: Global,
         from: &mut Deserializer<'de, '_, F>,
@@ -77,8 +81,11 @@ impl<'de, K: Deserialize<'de> + Ord, V: Deserialize<'de>, S: StoreBulkMut<K, V>>
     }
 }
 
-impl<K: DeserializeOwned + Ord, V: DeserializeOwned, S: StoreBulkMut<K, V>> DeserializeOwned
-    for SerdeMap<K, V, S> {
+impl<
+    K: DeserializeOwned + Ord,
+    V: DeserializeOwned,
+    S: StoreBulkMut<K, V, Alloc = Global>,
+> DeserializeOwned for SerdeMap<K, V, S> {
     fn deserialize_owned<F: Format>(
         alloc: Global,
         from: &mut Deserializer<'_, '_, F>,

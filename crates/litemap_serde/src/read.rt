@@ -18,7 +18,7 @@ pub fn deserialize<
     'de,
     K: Deserialize<'de> + Ord,
     V: Deserialize<'de>,
-    S: StoreBulkMut<K, V>,
+    S: StoreBulkMut<K, V, Alloc = Global>,
     F: Format,
 >(alloc: Global, from: &mut Deserializer<'de, '_, F>) -> Result<LiteMap<K, V, S>, F::Error>
     ensures whole { OnOk result (ReadsWhole F.gives F.stays from.old from.new) }
@@ -30,7 +30,7 @@ pub fn deserialize<
 pub fn deserialize_owned<
     K: DeserializeOwned + Ord,
     V: DeserializeOwned,
-    S: StoreBulkMut<K, V>,
+    S: StoreBulkMut<K, V, Alloc = Global>,
     F: Format,
 >(alloc: Global, from: &mut Deserializer<'_, '_, F>) -> Result<LiteMap<K, V, S>, F::Error>
     ensures whole { OnOk result (ReadsWhole F.gives F.stays from.old from.new) }
@@ -68,7 +68,7 @@ fn read<
     W: ReadBy<'de, K> + ReadBy<'de, V>,
     K: Ord + Drop,
     V: Drop,
-    S: StoreBulkMut<K, V>,
+    S: StoreBulkMut<K, V, Alloc = Global>,
     F: Format,
 >(alloc: Global, from: &mut Deserializer<'de, '_, F>) -> Result<LiteMap<K, V, S>, F::Error>
     ensures whole { OnOk result (ReadsWhole F.gives F.stays from.old from.new) }
@@ -116,12 +116,12 @@ fn next_pair<'de, W: ReadBy<'de, K> + ReadBy<'de, V>, K: Drop, V: Drop, F: Forma
     Ok(Some((key, value)))
 }
 
-fn made<K: Ord + Drop, V: Drop, S: StoreBulkMut<K, V>, F: Format>(
+fn made<K: Ord + Drop, V: Drop, S: StoreBulkMut<K, V, Alloc = Global>, F: Format>(
     alloc: Global,
     from: &Deserializer<'_, '_, F>,
     pairs: Vec<(K, V)>,
 ) -> Result<LiteMap<K, V, S>, F::Error>
-    ensures last { IfOk result (λ map. Last K.cmp pairs.items map.pairs) }
+    ensures last { IfOk result (λ map. Last K.cmp pairs.items map.entries) }
 {
     LiteMap::from_vec(alloc, pairs).map_err(|_| from.no_memory())
 }

@@ -19,7 +19,7 @@ pub fn serialize<K: Serialize + Ord, V: Serialize, S: Store<K, V>, W: Serializer
     out: &mut W,
 ) -> Result<(), W::Error>
     ensures { OnOk result
-        (WritesMap K.writes V.writes map.now.pairs (W.written out.old) (W.written out.new)) }
+        (WritesMap K.writes V.writes map.now.entries (W.written out.old) (W.written out.new)) }
 {
     let len = map.len();
     out.begin_map(Some(len))?;

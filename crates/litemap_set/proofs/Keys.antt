@@ -1,6 +1,6 @@
 -- From the pairs of a map to the keys of a set.
 --     length-keys, find-keys, contains-keys      how many keys there are, and what is found among them
---     contains-put, length-put, keys-put      after a put
+--     contains-put, length-put, keys-put, keys_of-put      after a put
 --     GivesSome-from_more      what an iterator yields;  on_err, on_ok_both      what calls return
 --     has_last      the last pairs of a list;  union_of_merge      a merge
 --     any-kept, none-kept, keys-cut, length-cut      after a cut, which is a filter of the keys
@@ -8,7 +8,10 @@ use Rattle.litemap_store.proofs.Names.{[], ℕ, ◌++◌, ◌+◌, ◌∙◌, �
 use Rattle.litemap_store.proofs.Names.{Greater, In, inl, inr, is_eq, is_gt, is_lt, is_some, IsTotalOrder, length, length-append, Less, List, None, not, Option}
 use Rattle.litemap_store.proofs.Names.{option_map, Ordering, refl, reverse, reverse-append, Some, suc, sym, tied_back, true}
 use Rattle.std.specs.Prelude.{◌||◌, ◌≤◌, Err, Ok, OnErr, OnOk, Result, find}
+use Rattle.std.specs.BTreeMap.{insert_entry}
+use Rattle.std.specs.BTreeSet.{insert_key}
 use Rattle.std.specs.List.{list_any}
+use Rattle.std.specs.Ordering.{match_ordering}
 use Rattle.std.specs.Map.{keys_of}
 use Rattle.std.proofs.lemmas.List.{map-append}
 use Rattle.std.proofs.lemmas.List.Folds.{list_any-append}
@@ -26,7 +29,7 @@ use Rattle.std.specs.Option.{option_or}
 use Rattle.litemap_store.proofs.Last.FirstGiven.{GivesSome-from_some, Rises-none}
 use Rattle.litemap_store.proofs.Last.KeepLast.{filter_all}
 use Rattle.litemap_store.proofs.Search.Splitting.{at_in, parted}
-use Rattle.litemap.proofs.StdMaps.{sorted_from_Rising}
+use Rattle.litemap.proofs.StdMaps.{put-insert_entry, sorted_from_Rising}
 use Rattle.litemap_set.specs.Sets.{HasLast, IsUnion, contains, key_at}
 
 pub length-keys : {K V : Type 0} (L : List (K × V)) → length (keys_of L) ≡ length L
@@ -105,6 +108,20 @@ module _ {K V : Type 0} {cmp : K → K → Ordering} (o : IsTotalOrder cmp) (L :
         ]
         ∙ ap (λ n. n + cond (not (is_some (at cmp L k))) 1 0)
         (sym (length-append (keys_of (below cmp L k)) (keys_of (cons_option (at cmp L k) (above cmp L k)))) ∙ ap length (sym keys_parted))
+
+    -- as std's `BTreeSet` has it
+    pub keys_of-put : keys_of (put cmp L k v) ≡ insert_key cmp (keys_of L) k
+    keys_of-put = ap keys_of (put-insert_entry o L k v r) ∙ by L
+      where
+        by : (M : List (K × V)) → keys_of (insert_entry cmp M k v) ≡ insert_key cmp (keys_of M) k
+        by [] = refl
+        by (p ∷ M) = elim (cmp k p.0) as
+            (λ c. keys_of (match_ordering c ((k, v) ∷ p ∷ M) ((p.0, v) ∷ M) (p ∷ insert_entry cmp M k v))
+            ≡ match_ordering c (k ∷ p.0 ∷ keys_of M) (p.0 ∷ keys_of M) (p.0 ∷ insert_key cmp (keys_of M) k)) [
+              | Less ↦ refl
+              | Equal ↦ refl
+              | Greater ↦ ap (λ ks. p.0 ∷ ks) (by M)
+            ]
 
 -- ---- the last pairs of a list
 any-reverse : {X : Type 0} (test : X → Bool) (L : List X) → list_any test (reverse L) ≡ list_any test L

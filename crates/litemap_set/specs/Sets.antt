@@ -3,12 +3,13 @@ use Rattle.std.specs.Prelude.{◌≡◌, ◌⊎◌, ◌+◌, ◌<◌, ◌≤◌,
 use Rattle.std.specs.Prelude.{IsTrue, OnErr, OnOk, if◌then◌else◌}
 use Rattle.std.specs.Prelude.{[], ◌∷◌, filter, find, length, map, not, refl, reverse, ⊤}
 pub use Rattle.std.specs.Map.{keys_of}
+use Rattle.std.specs.BTreeSet.{insert_key}
 use Rattle.std.specs.Bool.{OnFalse}
-use Rattle.std.specs.Fn.{CalledAt}
+use Rattle.std.specs.Fn.{CalledAt, Takes}
 use Rattle.std.specs.declared.cmp.Ordering.{Ordering}
 use Rattle.std.specs.declared.cmp.Ordering.TheVariants.{Equal}
 use Rattle.std.specs.Ordering.{is_eq}
-use Rattle.std.specs.List.{list_any}
+use Rattle.std.specs.List.{FoldsTo, IsAmong, list_any}
 use Rattle.std.specs.List.Sorted.{IsStrictlySortedBy}
 use Rattle.litemap_store.specs.declared.no_room.NoRoom.{NoRoom}
 use Rattle.litemap_store.specs.Bulk.{Gives}
@@ -85,6 +86,8 @@ pub record IsExtendedBy {U T K : Type 0} (cmp : K → K → Ordering) (becomes :
 pub record InsertsKey {K : Type 0} (cmp : K → K → Ordering) (key : K) (old new : Keys K) (result : Result Bool (NoRoom K)) : Type 0 where
   pub added : IfOk result (λ is_new. is_new ≡ not (contains cmp old.keys key))
   pub updates : OnOk result ((q : K) → contains cmp new.keys q ≡ (is_eq (cmp key q) || contains cmp old.keys q))
+  -- the list, as std's `BTreeSet` has it: with the key in its order, unless an equal one is there
+  pub keys : OnOk result (new.keys ≡ insert_key cmp old.keys key)
   pub len : IfOk result (λ is_new. length new.keys ≡ length old.keys + (if is_new then 1 else 0))
   -- an equal key stays, and so does all else
   pub present : IfOk result (λ is_new. OnFalse is_new (new.keys ≡ old.keys))
@@ -106,6 +109,16 @@ pub record RemovesKey {K Q : Type 0} (order : K → Q → Ordering) (q : Q) (old
   pub len : length new.keys + (if result then 1 else 0) ≡ length old.keys
   pub unchanged : OnFalse result (new ≡ old)
   pub room : IsTrue result → old.room < new.room
+
+module _ {F K : Type 0} (g : Mut F (Bor K × Unit {0}) Bool) where
+  -- a call of f on the key k may leave it as f'
+  abbrev pub AsksOfKey : F → K → F → Type 0
+  AsksOfKey f k f' = (b : Bool) × CalledAt g f k b f'
+
+  -- f may be called on each key of the list in order, in the state s that the calls on the keys before left
+  pub record TakesKeys (f : F) (keys : List K) : Type 0 where
+    pub at : (before after : List K) (s : F) (k : Bor K)
+        → keys ≡ before ++ k.now ∷ after → IsAmong keys k.now → FoldsTo AsksOfKey f before s → Takes g s (k, tt)
 
 -- f returns the test of each key, and keeps no state
 abbrev pub TestsKeys : {F K : Type 0} → Mut F (Bor K × Unit {0}) Bool → F → (K → Bool) → Type 0

@@ -13,12 +13,12 @@ ghost use Rattle.std.specs.declared.cmp.Ordering.TheVariants.{Equal};
 ghost use Rattle.litemap_store.specs.Bulk.{Gives, GivesSome};
 ghost use Rattle.litemap_set.specs.Sets.{HasLast, IsDifference, IsDisjoint, IsExtendedBy, IsIntersection, IsSubset};
 ghost use Rattle.litemap_set.specs.Sets.{IsSymmetricDifference, IsUnion};
-ghost use Rattle.litemap_set.specs.Sets.{InsertsKey, RemovesKey, TestsKeys, contains, key_at};
+ghost use Rattle.litemap_set.specs.Sets.{InsertsKey, RemovesKey, TakesKeys, TestsKeys, contains, key_at};
 ghost use Rattle.litemap_set.specs.Walks.{walk};
 
 use litemap::{IntoKeys, KeysIterWrap, LiteMap, Query, VecMap};
 use litemap_store::store::{NoRoom, SliceIter};
-use std::alloc::{AllocError, Global};
+use std::alloc::{AllocError, Allocator, Global};
 use std::cmp::Ordering;
 use std::fmt::{self, Debug, Formatter, Write};
 use std::iter::FusedIterator;
@@ -33,29 +33,33 @@ use std::vec;
 /// ```rust
 /// let mut days: VecSet<u32> = [5, 1, 3, 1].into_iter().collect(alloc)?;
 /// let weekend = VecSet::from_iter(alloc, [5, 6])?;
-/// let added = days.insert(2)? && !days.insert(3)? && days.remove(&1) && days.contains(&2) && days.clone()? == days;
-/// Ok(added && days.union(&weekend).eq([2, 3, 5, 6].iter()) && days.difference(&weekend).eq([2, 3].iter()))
+/// let is_added = days.insert(2)? && !days.insert(3)? && days.contains(&2);
+/// let is_changed = is_added && days.remove(&1) && days.clone()? == days;
+/// let is_united = days.union(&weekend).eq([2, 3, 5, 6].iter());
+/// Ok(is_changed && is_united && days.difference(&weekend).eq([2, 3].iter()))
 /// ```
-#[derive(Clone, PartialEq, Eq, PartialOrd, Ord, Hash, Drop)]
-pub struct VecSet<K: Ord> {
-    pub(crate) map: VecMap<K, ()>,
+#[derive(Drop)]
+#[derive_where(PartialEq, Eq, PartialOrd, Ord, Hash; K)]
+#[derive_where(Clone; K, A: Copy)]
+pub struct VecSet<K: Ord, A: Allocator = Global> {
+    pub(crate) map: VecMap<K, (), A>,
 }
 
-impl<K: Ord> Model for VecSet<K> {
+impl<K: Ord, A: Allocator> Model for VecSet<K, A> {
     ghost use Rattle.litemap_set.specs.Sets.{Keys, keys_of, units, units_keys};
 
     ghost Value = { Keys K };
 
-    ghost view = { λ s. record { keys = keys_of s.map.pairs; room = s.map.room } };
+    ghost view = { λ s. record { keys = keys_of s.map.entries; room = s.map.room } };
 
-    ghost inverse = { λ s. record { map = record { pairs = units s.keys; room = s.room } } };
+    ghost inverse = { λ s. record { map = record { entries = units s.keys; room = s.room } } };
 
-    ghost inverse_ok = { λ s h i. record { map = record { pairs = units_keys s.map.pairs i; room = s.map.room } } };
+    ghost inverse_ok = { λ s h i. record { map = record { entries = units_keys s.map.entries i; room = s.map.room } } };
 }
 
-impl<K: Ord> VecSet<K> {
+impl<K: Ord, A: Allocator + Copy> VecSet<K, A> {
     /// Returns an empty set. It takes no memory.
-    pub fn new(alloc: Global) -> Self
+    pub fn new(alloc: A) -> Self
         ensures keys { result.keys ≡ [] }
         ensures room { result.room ≡ 0 }
     {
@@ -64,7 +68,7 @@ impl<K: Ord> VecSet<K> {
         }
     }
 
-    /// Returns the number of keys.
+    /// Returns the number of keys. It takes constant time.
     pub fn len(&self) -> usize
         ensures len { result ≡ length self.now.keys }
         ensures ascending { IsStrictlySortedBy K.cmp self.now.keys }
@@ -72,21 +76,22 @@ impl<K: Ord> VecSet<K> {
         self.map.len()
     }
 
-    /// Returns whether the set is empty.
+    /// Returns whether the set is empty. It takes constant time.
     pub fn is_empty(&self) -> bool
         ensures { result ≡ (length self.now.keys == 0) }
     {
         self.map.is_empty()
     }
 
-    /// Returns whether the set has a key equal to a `Query`: a reference to a key, or a `&str` if keys are strings.
+    /// Returns whether the set has a key equal to a `Query`: a reference to a key, or a `&str` if keys are strings. It makes
+    /// O(log n) comparisons.
     pub fn contains<Q: Query<K>>(&self, key: Q) -> bool
         ensures { result ≡ contains Q.order self.now.keys (Q.sought key) }
     {
         self.map.contains_key(key)
     }
 
-    /// Returns the set's own key that is equal to `key`, or `None` if there is none.
+    /// Returns the set's own key that is equal to `key`, or `None` if there is none. It makes O(log n) comparisons.
     pub fn get<Q: Query<K>>(&self, key: Q) -> Option<&K>
         ensures key { option_copied result ≡ key_at Q.order self.now.keys (Q.sought key) }
         ensures same_key { IfSome result (λ k. Q.order k.now (Q.sought key) ≡ Equal) }
@@ -97,71 +102,73 @@ impl<K: Ord> VecSet<K> {
         Some(found)
     }
 
-    /// Returns the smallest key, or `None` if the set is empty.
+    /// Returns the smallest key, or `None` if the set is empty. It takes constant time.
     pub fn first(&self) -> Option<&K>
         ensures { option_copied result ≡ slice_get self.now.keys 0 }
     {
         Some(self.map.first()?.0)
     }
 
-    /// Returns the greatest key, or `None` if the set is empty.
+    /// Returns the greatest key, or `None` if the set is empty. It takes constant time.
     pub fn last(&self) -> Option<&K>
         ensures { option_copied result ≡ slice_get self.now.keys (length self.now.keys - 1) }
     {
         Some(self.map.last()?.0)
     }
 
-    /// Returns an iterator over all keys, in their order.
+    /// Returns an iterator over all keys, in their order. Each step takes constant time.
     pub fn iter(&self) -> KeysIterWrap<'_, K, (), SliceIter<'_, K, ()>>
         ensures { keys_of result ≡ self.now.keys }
     {
         self.map.keys()
     }
 
-    /// Returns an iterator over the keys that this set or another has, in order. Of two equal keys it returns this set's.
-    pub fn union<'a>(&'a self, other: &'a VecSet<K>) -> Combination<'a, K>
+    /// Returns an iterator over the keys that this set or another has, in order. Of two equal keys it returns this set's. It
+    /// makes O(n + m) comparisons.
+    pub fn union<'a>(&'a self, other: &'a Self) -> Combination<'a, K>
         ensures { IsUnion K.cmp self.now.keys other.now.keys result }
     {
         self.combined(other, (true, true, true))
     }
 
-    /// Returns an iterator over the keys of this set that another has, too, in order.
-    pub fn intersection<'a>(&'a self, other: &'a VecSet<K>) -> Combination<'a, K>
+    /// Returns an iterator over the keys of this set that another has, too, in order. It makes O(n + m) comparisons.
+    pub fn intersection<'a>(&'a self, other: &'a Self) -> Combination<'a, K>
         ensures { IsIntersection K.cmp self.now.keys other.now.keys result }
     {
         self.combined(other, (false, true, false))
     }
 
-    /// Returns an iterator over the keys of this set that another lacks, in order.
-    pub fn difference<'a>(&'a self, other: &'a VecSet<K>) -> Combination<'a, K>
+    /// Returns an iterator over the keys of this set that another lacks, in order. It makes O(n + m) comparisons.
+    pub fn difference<'a>(&'a self, other: &'a Self) -> Combination<'a, K>
         ensures { IsDifference K.cmp self.now.keys other.now.keys result }
     {
         self.combined(other, (true, false, false))
     }
 
-    /// Returns an iterator over the keys that exactly one of the two sets has, in order.
-    pub fn symmetric_difference<'a>(&'a self, other: &'a VecSet<K>) -> Combination<'a, K>
+    /// Returns an iterator over the keys that exactly one of the two sets has, in order. It makes O(n + m) comparisons.
+    pub fn symmetric_difference<'a>(&'a self, other: &'a Self) -> Combination<'a, K>
         ensures { IsSymmetricDifference K.cmp self.now.keys other.now.keys result }
     {
         self.combined(other, (true, false, true))
     }
 
-    /// Returns whether another set has all keys of this one. It walks up to the first key that the other lacks.
-    pub fn is_subset(&self, other: &VecSet<K>) -> bool
+    /// Returns whether another set has all keys of this one. It walks up to the first key that the other lacks. It makes
+    /// O(n + m) comparisons.
+    pub fn is_subset(&self, other: &Self) -> bool
         ensures { IsTrue result ↔ IsSubset K.cmp self.now.keys other.now.keys }
     {
         self.difference(other).next().is_none()
     }
 
-    /// Returns whether this set has all keys of another.
-    pub fn is_superset(&self, other: &VecSet<K>) -> bool
+    /// Returns whether this set has all keys of another. It makes O(n + m) comparisons.
+    pub fn is_superset(&self, other: &Self) -> bool
         ensures { IsTrue result ↔ IsSubset K.cmp other.now.keys self.now.keys }
     {
         other.is_subset(self)
     }
 
-    /// Returns whether no key is in both sets. It walks up to the first common key.
-    pub fn is_disjoint(&self, other: &VecSet<K>) -> bool
+    /// Returns whether no key is in both sets. It walks up to the first common key. It makes O(n + m) comparisons.
+    pub fn is_disjoint(&self, other: &Self) -> bool
         ensures { IsTrue result ↔ IsDisjoint K.cmp self.now.keys other.now.keys }
     {
         self.intersection(other).next().is_none()
@@ -180,9 +187,10 @@ impl<K: Ord> VecSet<K> {
     }
 }
 
-impl<K: Ord + Drop> VecSet<K> {
-    /// Inserts a key, and returns whether it is new. If an equal key is present, that one stays, and the new one is dropped.
-    /// It fails only for a new key, at room 0, if memory runs out: the error returns the key, and the set keeps its keys.
+impl<K: Ord + Drop, A: Allocator + Copy> VecSet<K, A> {
+    /// Inserts a key, and returns whether it is new. If an equal key is present, that one stays, and the new one is dropped. It
+    /// fails only for a new key, at room 0, if memory runs out: the error returns the key, and the set keeps its keys. It makes
+    /// O(log n) comparisons, and moves the greater keys up by one.
     pub fn insert(&mut self, key: K) -> Result<bool, NoRoom<K>>
         ensures { InsertsKey K.cmp key self.old self.new result }
     {
@@ -194,7 +202,8 @@ impl<K: Ord + Drop> VecSet<K> {
         Ok(old.is_none())
     }
 
-    /// Removes an equal key, and returns whether there was one.
+    /// Removes an equal key, and returns whether there was one. It makes O(log n) comparisons, and moves the greater keys down
+    /// by one.
     pub fn remove<Q: Query<K>>(&mut self, key: Q) -> bool
         ensures { RemovesKey Q.order (Q.sought key) self.old self.new result }
     {
@@ -202,9 +211,10 @@ impl<K: Ord + Drop> VecSet<K> {
         self.map.remove(key).is_some()
     }
 
-    /// Keeps the keys for which `f` returns true, and drops the others. `f` is called once for each key, in order.
+    /// Keeps the keys for which `f` returns true, and drops the others. `f` is called once for each key, in order. It compares
+    /// no keys.
     pub fn retain<F: FnMut(&K) -> bool>(&mut self, mut f: F)
-        requires { (state : F) (key : _) → F.pre state key }
+        requires { TakesKeys F.FnMut f self.old.keys }
         ensures { (test : K → Bool) → TestsKeys F.FnMut f test → self.new.keys ≡ filter test self.old.keys }
     {
         self.map.retain(
@@ -217,7 +227,7 @@ impl<K: Ord + Drop> VecSet<K> {
 
     /// Moves the keys of another set into this one; of two equal keys this set's stays. It compares as a map's merge does. If
     /// memory runs out, both sets keep their keys.
-    pub fn append(&mut self, alloc: Global, other: &mut Self) -> Result<(), AllocError>
+    pub fn append(&mut self, alloc: A, other: &mut Self) -> Result<(), AllocError>
         ensures union { OnOk result (IsUnion K.cmp self.old.keys other.old.keys self.new.keys) }
         ensures emptied { OnOk result (other.new.keys ≡ []) }
         ensures unchanged { OnErr result ((self.new.keys ≡ self.old.keys) × (other.new.keys ≡ other.old.keys)) }
@@ -227,11 +237,7 @@ impl<K: Ord + Drop> VecSet<K> {
 
     /// Adds the keys that an iterator yields, each in the place of an equal one. It compares as a map's `extend` does. If memory
     /// runs out, the set keeps its keys; it never fails for an iterator that yields nothing.
-    pub fn extend<I: IntoIterator<Item = K>>(
-        &mut self,
-        alloc: Global,
-        iter: I,
-    ) -> Result<(), AllocError>
+    pub fn extend<I: IntoIterator<Item = K>>(&mut self, alloc: A, iter: I) -> Result<(), AllocError>
         requires { IsFiniteIterable I.into_iter_gives I.IntoIter.can_next I.IntoIter.remaining iter }
         ensures extended { OnOk result
             (IsExtendedBy K.cmp I.into_iter_gives I.IntoIter.next_gives iter self.old.keys self.new.keys) }
@@ -245,10 +251,10 @@ impl<K: Ord + Drop> VecSet<K> {
 }
 
 // The pairs of a map for the keys that an iterator yields.
-fn with_units<K: Drop, I: IntoIterator<Item = K>>(
-    alloc: Global,
+fn with_units<K: Drop, A: Allocator + Copy, I: IntoIterator<Item = K>>(
+    alloc: A,
     iter: I,
-) -> Result<Vec<(K, ())>, AllocError>
+) -> Result<Vec<(K, ()), A>, AllocError>
     requires { IsFiniteIterable I.into_iter_gives I.IntoIter.can_next I.IntoIter.remaining iter }
     ensures given { IfOk result
         (λ pairs. Gives I.into_iter_gives I.IntoIter.next_gives iter (keys_of pairs.items)) }
@@ -262,12 +268,12 @@ fn with_units<K: Drop, I: IntoIterator<Item = K>>(
 }
 
 /// The set of the keys that an iterator yields, of equal ones the last. It compares and fails as `extend` does.
-impl<K: Ord + Drop> FromIterator<K> for VecSet<K> {
-    type Alloc = Global;
+impl<K: Ord + Drop, A: Allocator + Copy> FromIterator<K> for VecSet<K, A> {
+    type Alloc = A;
 
     ghost from_iter_gives = { λ keys s. HasLast K.cmp [] keys s.keys };
 
-    fn from_iter<I: IntoIterator<Item = K>>(alloc: Global, iter: I) -> Result<Self, AllocError> {
+    fn from_iter<I: IntoIterator<Item = K>>(alloc: A, iter: I) -> Result<Self, AllocError> {
         let mut set = VecSet::new(alloc);
         set.extend(alloc, iter)?;
         Ok(set)
@@ -275,7 +281,7 @@ impl<K: Ord + Drop> FromIterator<K> for VecSet<K> {
 }
 
 /// Iterates over references to all keys, in their order.
-impl<'a, K: Ord> IntoIterator for &'a VecSet<K> {
+impl<'a, K: Ord, A: Allocator + Copy> IntoIterator for &'a VecSet<K, A> {
     type Item = &'a K;
 
     type IntoIter = KeysIterWrap<'a, K, (), SliceIter<'a, K, ()>>;
@@ -288,22 +294,22 @@ impl<'a, K: Ord> IntoIterator for &'a VecSet<K> {
 }
 
 /// Iterates over all keys by value, in their order.
-impl<K: Ord + Drop> IntoIterator for VecSet<K> {
+impl<K: Ord + Drop, A: Allocator + Copy> IntoIterator for VecSet<K, A> {
     type Item = K;
 
-    type IntoIter = IntoKeys<K, (), vec::IntoIter<(K, ())>>;
+    type IntoIter = IntoKeys<K, (), vec::IntoIter<(K, ()), A>>;
 
     ghost use Rattle.std.specs.Vec.Iter.{into_iter_items};
 
     ghost into_iter_gives = { λ s r. keys_of (into_iter_items r) ≡ s.keys };
 
-    fn into_iter(self) -> IntoKeys<K, (), vec::IntoIter<(K, ())>> {
+    fn into_iter(self) -> IntoKeys<K, (), vec::IntoIter<(K, ()), A>> {
         self.map.into_keys()
     }
 }
 
 /// Formats it as a set. What is printed is not promised.
-impl<K: Ord + Debug> Debug for VecSet<K> {
+impl<K: Ord + Debug, A: Allocator + Copy> Debug for VecSet<K, A> {
     fn fmt<W: Write>(&self, f: &mut Formatter<W>) -> fmt::Result {
         let mut out = f.debug_set();
         for key in self {

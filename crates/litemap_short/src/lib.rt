@@ -9,6 +9,7 @@ mod storage;
 use litemap::LiteMap;
 pub use short_iter::ShortIntoIter;
 pub use short_store::ShortStore;
+use std::alloc::Global;
 
 /// A map that keeps no pair or one in itself, and more in a vector.
 ///
@@ -17,4 +18,4 @@ pub use short_store::ShortStore;
 /// days.insert(1, "Monday")?;
 /// Ok(days.get(&1) == Some(&"Monday"))
 /// ```
-pub type ShortMap<K, V> = LiteMap<K, V, ShortStore<K, V>>;
+pub type ShortMap<K, V, A = Global> = LiteMap<K, V, ShortStore<K, V, A>>;

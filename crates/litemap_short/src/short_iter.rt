@@ -6,18 +6,19 @@ ghost use Rattle.litemap_store.specs.Hints.{HintsExactly};
 ghost use Rattle.std.specs.List.{cons_option};
 
 use litemap_store::store::PairIntoIter;
+use std::alloc::{Allocator, Global};
 use std::marker::Model;
 use std::vec::IntoIter;
 
 /// An iterator that returns the pairs of a short store by value. A contract sees it as the list of the pairs that are still to
 /// come.
 #[derive(Debug, Drop)]
-pub struct ShortIntoIter<K, V> {
+pub struct ShortIntoIter<K, V, A: Allocator = Global> {
     first: Option<(K, V)>,
-    others: IntoIter<(K, V)>,
+    others: IntoIter<(K, V), A>,
 }
 
-impl<K, V> Model for ShortIntoIter<K, V> {
+impl<K, V, A: Allocator> Model for ShortIntoIter<K, V, A> {
     ghost use Rattle.std.specs.Prelude.{◌≡◌, List, [], IfSome};
     ghost use Rattle.std.specs.Vec.Iter.{into_iter_items};
     ghost use Rattle.std.specs.List.{cons_option};
@@ -29,9 +30,9 @@ impl<K, V> Model for ShortIntoIter<K, V> {
     ghost invariant = { λ a. IfSome a.first (λ _. into_iter_items a.others ≡ []) };
 }
 
-impl<K, V> ShortIntoIter<K, V> {
+impl<K, V, A: Allocator> ShortIntoIter<K, V, A> {
     // The iterator over the one pair, if there is one, and the others.
-    pub(crate) fn new(first: Option<(K, V)>, others: IntoIter<(K, V)>) -> Self
+    pub(crate) fn new(first: Option<(K, V)>, others: IntoIter<(K, V), A>) -> Self
         requires { IfSome first (λ _. into_iter_items others ≡ []) }
         ensures { result ≡ cons_option first (into_iter_items others) }
     {
@@ -39,7 +40,7 @@ impl<K, V> ShortIntoIter<K, V> {
     }
 }
 
-impl<K: Drop, V: Drop> Iterator for ShortIntoIter<K, V> {
+impl<K: Drop, V: Drop, A: Allocator> Iterator for ShortIntoIter<K, V, A> {
     type Item = (K, V);
 
     ghost next_gives = { YieldsFirst (λ s. s) };
@@ -61,7 +62,7 @@ impl<K: Drop, V: Drop> Iterator for ShortIntoIter<K, V> {
     }
 }
 
-impl<K: Drop, V: Drop> ExactSizeIterator for ShortIntoIter<K, V> {
+impl<K: Drop, V: Drop, A: Allocator> ExactSizeIterator for ShortIntoIter<K, V, A> {
     fn len(&self) -> usize {
         if self.first.is_some() {
             1
@@ -71,7 +72,7 @@ impl<K: Drop, V: Drop> ExactSizeIterator for ShortIntoIter<K, V> {
     }
 }
 
-impl<K: Drop, V: Drop> PairIntoIter<K, V> for ShortIntoIter<K, V> {
+impl<K: Drop, V: Drop, A: Allocator> PairIntoIter<K, V> for ShortIntoIter<K, V, A> {
     ghost owned = { λ s. s };
 
     ghost can = { λ _. tt };

@@ -6,10 +6,10 @@ use crate::short_iter::ShortIntoIter;
 use crate::storage::{Storage, pair_at};
 use litemap_store::store::{
     Count, KeepsMemory, NoRoom, SliceIter, SliceStore, Store, StoreAlloc, StoreBulkMut,
-    StoreConstEmpty, StoreFromIterable, StoreFromIterator, StoreIntoIterator, StoreIterable,
-    StoreMut, StoreSlice,
+    StoreConstEmpty, StoreFromIterable, StoreFromIterator, StoreIn, StoreIntoIterator,
+    StoreIterable, StoreMut, StoreSlice,
 };
-use std::alloc::{AllocError, Global};
+use std::alloc::{AllocError, Allocator, Global};
 use std::cmp::Ordering;
 use std::fmt::{self, Debug, Formatter, Write};
 use std::marker::Model;
@@ -26,28 +26,28 @@ use std::ops::Range;
 ///
 /// It prints as the list of its pairs.
 #[derive(Drop)]
-pub struct ShortStore<K, V> {
-    alloc: Global,
-    storage: Storage<(K, V)>,
+pub struct ShortStore<K, V, A: Allocator = Global> {
+    alloc: A,
+    storage: Storage<(K, V), A>,
 }
 
-impl<K, V> Model for ShortStore<K, V> {
+impl<K, V, A: Allocator> Model for ShortStore<K, V, A> {
     ghost use Rattle.litemap_store.specs.Contents.{Contents};
     ghost use Rattle.litemap_short.specs.Storage.{storage_items, storage_room};
 
     ghost Value = { Contents K V };
 
-    ghost view = { λ s. record { pairs = storage_items s.storage; room = storage_room s.storage } };
+    ghost view = { λ s. record { entries = storage_items s.storage; room = storage_room s.storage } };
 }
 
-impl<K: Debug, V: Debug> Debug for ShortStore<K, V> {
+impl<K: Debug, V: Debug, A: Allocator + Copy> Debug for ShortStore<K, V, A> {
     fn fmt<W: Write>(&self, f: &mut Formatter<W>) -> fmt::Result {
         self.storage.as_slice().fmt(f)
     }
 }
 
-impl<K, V> Store<K, V> for ShortStore<K, V> {
-    ghost pairs = { λ s. s.pairs };
+impl<K, V, A: Allocator + Copy> Store<K, V> for ShortStore<K, V, A> {
+    ghost pairs = { λ s. s.entries };
 
     ghost room = { λ s. s.room };
 
@@ -68,28 +68,32 @@ impl<K, V> Store<K, V> for ShortStore<K, V> {
     }
 }
 
-impl<K, V> StoreAlloc<K, V> for ShortStore<K, V> {
-    fn lm_alloc(&self) -> Global {
+impl<K, V, A: Allocator + Copy> StoreIn<K, V> for ShortStore<K, V, A> {
+    type Alloc = A;
+}
+
+impl<K, V, A: Allocator + Copy> StoreAlloc<K, V> for ShortStore<K, V, A> {
+    fn lm_alloc(&self) -> A {
         self.alloc
     }
 }
 
-impl<K, V> StoreConstEmpty<K, V> for ShortStore<K, V> {
+impl<K, V, A: Allocator + Copy> StoreConstEmpty<K, V> for ShortStore<K, V, A> {
     ghost empty_room = { λ room. room ≡ 1 };
 
-    fn lm_empty(alloc: Global) -> Self {
+    fn lm_empty(alloc: A) -> Self {
         let storage = Storage::Empty;
         ShortStore { alloc, storage }
     }
 }
 
-impl<K, V> StoreSlice<K, V> for ShortStore<K, V> {
+impl<K, V, A: Allocator + Copy> StoreSlice<K, V> for ShortStore<K, V, A> {
     fn lm_get_range(&self, range: Range<usize>) -> Option<&[(K, V)]> {
         self.storage.as_slice().get(range)
     }
 }
 
-impl<'a, K: 'a, V: 'a> StoreIterable<'a, K, V> for ShortStore<K, V> {
+impl<'a, K: 'a, V: 'a, A: Allocator + Copy> StoreIterable<'a, K, V> for ShortStore<K, V, A> {
     type KeyValueIter = SliceIter<'a, K, V>;
 
     fn lm_iter(&'a self) -> SliceIter<'a, K, V> {
@@ -97,14 +101,14 @@ impl<'a, K: 'a, V: 'a> StoreIterable<'a, K, V> for ShortStore<K, V> {
     }
 }
 
-impl<K, V> StoreMut<K, V> for ShortStore<K, V> {
+impl<K, V, A: Allocator + Copy> StoreMut<K, V> for ShortStore<K, V, A> {
     ghost with_value = { with_value };
 
     ghost keeps_memory = { ⊤ };
 
     ghost free_room = { 1 };
 
-    fn lm_with_capacity(alloc: Global, capacity: usize) -> Result<Self, AllocError> {
+    fn lm_with_capacity(alloc: A, capacity: usize) -> Result<Self, AllocError> {
         let storage = if capacity <= 1 {
             Storage::Empty
         } else {
@@ -151,7 +155,7 @@ impl<K, V> StoreMut<K, V> for ShortStore<K, V> {
         self.storage.clear();
     }
 
-    fn lm_try_clone(&self, alloc: Global) -> Result<Self, AllocError>
+    fn lm_try_clone(&self, alloc: A) -> Result<Self, AllocError>
     where
         K: Clone,
         V: Clone,
@@ -166,11 +170,11 @@ impl<K, V> StoreMut<K, V> for ShortStore<K, V> {
     ghost keeps_room = { λ s i v. refl };
 }
 
-impl<K, V> KeepsMemory<K, V> for ShortStore<K, V> {
+impl<K, V, A: Allocator + Copy> KeepsMemory<K, V> for ShortStore<K, V, A> {
     ghost keeps = { tt };
 }
 
-impl<K: Ord + Drop, V: Drop> StoreBulkMut<K, V> for ShortStore<K, V> {
+impl<K: Ord + Drop, V: Drop, A: Allocator + Copy> StoreBulkMut<K, V> for ShortStore<K, V, A> {
     ghost fails_for_pairs_only = { ⊤ };
 
     fn lm_retain<F: FnMut(&K, &V) -> bool>(&mut self, f: F) {
@@ -178,11 +182,11 @@ impl<K: Ord + Drop, V: Drop> StoreBulkMut<K, V> for ShortStore<K, V> {
     }
 }
 
-impl<K: Ord + Drop, V: Drop> StoreFromIterable<K, V> for ShortStore<K, V> {
+impl<K: Ord + Drop, V: Drop, A: Allocator + Copy> StoreFromIterable<K, V> for ShortStore<K, V, A> {
     ghost fails_for_pairs_only = { ⊤ };
 
     fn lm_sort_from_iter<I: IntoIterator<Item = (K, V)>>(
-        alloc: Global,
+        alloc: A,
         iter: I,
         count: &mut Count,
     ) -> Result<Self, AllocError> {
@@ -191,11 +195,11 @@ impl<K: Ord + Drop, V: Drop> StoreFromIterable<K, V> for ShortStore<K, V> {
     }
 }
 
-impl<K: Drop, V: Drop> StoreFromIterator<K, V> for ShortStore<K, V> {
+impl<K: Drop, V: Drop, A: Allocator + Copy> StoreFromIterator<K, V> for ShortStore<K, V, A> {
     ghost fails_for_pairs_only = { ⊤ };
 
     fn lm_from_pairs<I: IntoIterator<Item = (K, V)>>(
-        alloc: Global,
+        alloc: A,
         iter: I,
     ) -> Result<Self, AllocError> {
         let storage = Storage::from_vec(Vec::lm_from_pairs(alloc, iter)?);
@@ -203,10 +207,10 @@ impl<K: Drop, V: Drop> StoreFromIterator<K, V> for ShortStore<K, V> {
     }
 }
 
-impl<K: Drop, V: Drop> StoreIntoIterator<K, V> for ShortStore<K, V> {
-    type KeyValueIntoIter = ShortIntoIter<K, V>;
+impl<K: Drop, V: Drop, A: Allocator + Copy> StoreIntoIterator<K, V> for ShortStore<K, V, A> {
+    type KeyValueIntoIter = ShortIntoIter<K, V, A>;
 
-    fn lm_into_iter(self) -> ShortIntoIter<K, V> {
+    fn lm_into_iter(self) -> ShortIntoIter<K, V, A> {
         let (first, others) = self.storage.into_parts(self.alloc);
         ShortIntoIter::new(first, others)
     }

@@ -12,20 +12,20 @@ ghost use Rattle.litemap_store.specs.Retain.{CallableOnEach, Kept};
 use litemap_store::reserved::insert_reserved;
 use litemap_store::retain::is_kept;
 use litemap_store::store::StoreBulkMut;
-use std::alloc::{AllocError, Global};
+use std::alloc::{AllocError, Allocator};
 use std::vec::IntoIter;
 use std::{array, mem};
 
 /// The items of a short store: none or one lies in it, more lie in a vector.
 #[derive(Drop)]
-pub(crate) enum Storage<T> {
+pub(crate) enum Storage<T, A: Allocator> {
     Empty,
     // The empty array takes no bytes. By it a proof knows that the item has the size of one in a slice.
     Inline(T, [T; 0]),
-    Heap(Vec<T>),
+    Heap(Vec<T, A>),
 }
 
-impl<T> Storage<T> {
+impl<T, A: Allocator + Copy> Storage<T, A> {
     ghost use Rattle.litemap_short.specs.Storage.{storage_items, storage_room, IsFew, IsOne};
     ghost use Rattle.litemap_short.specs.Lends.{storage_lends_item};
     ghost use Rattle.litemap_short.specs.declared.storage.Storage.TheVariants.{Empty};
@@ -41,7 +41,7 @@ impl<T> Storage<T> {
     }
 
     // Reserves spare capacity for `additional` items. If it wasn't there, all items are in a vector then.
-    pub(crate) fn reserve(&mut self, alloc: Global, additional: usize) -> Result<(), AllocError>
+    pub(crate) fn reserve(&mut self, alloc: A, additional: usize) -> Result<(), AllocError>
         ensures items { storage_items self.new ≡ storage_items self.old }
         ensures room { OnOk result (additional ≤ storage_room self.new) }
         ensures room_not_lowered { storage_room self.old ≤ storage_room self.new }
@@ -56,7 +56,7 @@ impl<T> Storage<T> {
     }
 
     // Moves the item, if there is one, to a vector with spare capacity for `additional` more.
-    fn move_to_vec(&mut self, alloc: Global, additional: usize) -> Result<(), AllocError>
+    fn move_to_vec(&mut self, alloc: A, additional: usize) -> Result<(), AllocError>
         requires few { IsFew self.old }
         requires more { storage_room self.old < additional }
         ensures items { storage_items self.new ≡ storage_items self.old }
@@ -116,7 +116,7 @@ impl<T> Storage<T> {
 
     pub(crate) fn item_mut(&mut self, index: usize) -> &mut T
         requires { index < length (storage_items self.old) }
-        ensures* writes_back { sem 𝓛 (storage_lends_item T.row self.entry index result) }
+        ensures* writes_back { sem 𝓛 (storage_lends_item T.row A.row A.Allocator self.entry index result) }
         ensures value { result.now ≡ slice_index_or (storage_items self.old) index result.now }
     {
         match self {
@@ -128,7 +128,7 @@ impl<T> Storage<T> {
 
     // The items of a vector, which stays if it has two or more, and else is freed: an item need not be `Drop`, so an empty vector
     // can't just go out of scope.
-    pub(crate) fn from_vec(mut items: Vec<T>) -> Self
+    pub(crate) fn from_vec(mut items: Vec<T, A>) -> Self
         ensures { storage_items result ≡ items.items }
     {
         if items.len() > 1 {
@@ -143,7 +143,7 @@ impl<T> Storage<T> {
     }
 
     // The inline item, if there is one, and an iterator over those on the heap.
-    pub(crate) fn into_parts(self, alloc: Global) -> (Option<T>, IntoIter<T>)
+    pub(crate) fn into_parts(self, alloc: A) -> (Option<T>, IntoIter<T, A>)
         ensures items { cons_option result.0 (into_iter_items result.1) ≡ storage_items self }
         ensures alone { IfSome result.0 (λ _. into_iter_items result.1 ≡ []) }
     {
@@ -155,7 +155,7 @@ impl<T> Storage<T> {
     }
 
     // Clones the items in order. At most one item takes no memory but its clone's.
-    pub(crate) fn try_clone(&self, alloc: Global) -> Result<Self, AllocError>
+    pub(crate) fn try_clone(&self, alloc: A) -> Result<Self, AllocError>
     where
         T: Clone,
         ensures clones { IfOk result (λ h. AllZip T.is_clone (storage_items self.now) (storage_items h)) }
@@ -191,7 +191,7 @@ impl<T> Storage<T> {
     }
 }
 
-impl<K: Drop, V: Drop> Storage<(K, V)> {
+impl<K: Drop, V: Drop, A: Allocator + Copy> Storage<(K, V), A> {
     ghost use Rattle.litemap_short.specs.Storage.{storage_items, storage_room, IsOne};
 
     // Keeps the pairs for which `f` returns true. It calls `f` once on each, in order.

@@ -1,11 +1,12 @@
 -- What bulk input leaves: the last pairs of the old ones followed by those that an iterator yields.
-use Rattle.std.specs.Prelude.{◌≡◌, ◌⊎◌, ◌+◌, ◌*◌, List, ◌++◌, Option, Some, length}
+use Rattle.std.specs.Prelude.{◌≡◌, ◌⊎◌, ◌+◌, ◌*◌, List, ◌++◌, Option, Some, length, reverse}
 use Rattle.std.specs.declared.cmp.Ordering.{Ordering}
 use Rattle.std.specs.Iterator.{Drains}
+use Rattle.std.specs.Option.{option_or}
 use Rattle.litemap_store.specs.declared.count.Count.{Count}
 use Rattle.litemap_store.specs.Counts.{RisesByAtMost}
 use Rattle.litemap_store.specs.Last.{Last, Rises}
-use Rattle.litemap_store.specs.Pairs.{Rising}
+use Rattle.litemap_store.specs.Pairs.{Rising, value_at}
 
 -- iter becomes an iterator that yields the items and then ends
 abbrev pub Gives : {U T X : Type 0} → (U → T → Type 0) → (T → Option X → T → Type 0) → U → List X → Type 0
@@ -30,12 +31,24 @@ pub record IsCountedFor {K V : Type 0} (cmp : K → K → Ordering) (old given :
   -- if they ascend: one for each old and two for each new pair
   pub rising : Rising cmp given → RisesByAtMost (length old + 2 * length given) before after
 
+-- M has the last pairs of L followed by J
+pub record Extends {K V : Type 0} (cmp : K → K → Ordering) (L J M : List (K × V)) : Type 0 where
+  pub last : Last cmp (L ++ J) M
+  -- what a key finds: its last value in J, if there is one, else what it finds in L
+  pub found : (k : K) → value_at cmp M k ≡ option_or (value_at cmp (reverse J) k) (value_at cmp L k)
+  -- if all keys ascend, the pairs stay as they are
+  pub stays : Rising cmp (L ++ J) → M ≡ L ++ J
+
 -- pairs are given, and new has the last pairs of the old ones followed by these
 pub record IsGathered {K V : Type 0} (cmp : K → K → Ordering) (AreGiven : List (K × V) → Type 0)
     (old new : List (K × V)) : Type 0 where
   pub given : List (K × V)
   pub gives : AreGiven given
   pub last : Last cmp (old ++ given) new
+  -- what a key finds: the last value that it is given, if there is one, else what it found before
+  pub found : (k : K) → value_at cmp new k ≡ option_or (value_at cmp (reverse given) k) (value_at cmp old k)
+  -- if all keys ascend, the pairs stay as they are
+  pub stays : Rising cmp (old ++ given) → new ≡ old ++ given
 
 module _ {U T K V : Type 0} (cmp : K → K → Ordering) (becomes : U → T → Type 0) (steps : T → Option (K × V) → T → Type 0) where
   -- iter yields the pairs, as `IsGathered` says, and how many comparisons are counted at most

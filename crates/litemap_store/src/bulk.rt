@@ -16,7 +16,7 @@ use crate::growth::{Refused, reserve};
 use crate::into_iter::append_each;
 use crate::sorted::{keep_rising, lies_below};
 use crate::store::{Count, StoreIntoIterator};
-use std::alloc::Global;
+use std::alloc::Allocator;
 use std::mem;
 
 // The capacity that is taken with the first item.
@@ -27,8 +27,8 @@ const QUADRUPLED_BELOW: usize = 512;
 
 /// Appends the items of an iterator to a vector, without its size hint. On an error the new items are dropped, and the vector
 /// has its own.
-pub fn append_items<K: Drop, V: Drop, I: IntoIterator<Item = (K, V)>>(
-    items: &mut Vec<(K, V)>,
+pub fn append_items<K: Drop, V: Drop, A: Allocator + Copy, I: IntoIterator<Item = (K, V)>>(
+    items: &mut Vec<(K, V), A>,
     iter: I,
 ) -> Result<(), Refused>
     requires { IsFiniteIterable I.into_iter_gives I.IntoIter.can_next I.IntoIter.remaining iter }
@@ -54,7 +54,7 @@ pub fn append_items<K: Drop, V: Drop, I: IntoIterator<Item = (K, V)>>(
 // the items stays short.
 #[cold]
 #[inline(never)]
-fn make_room<K, V>(items: &mut Vec<(K, V)>) -> Result<(), Refused>
+fn make_room<K, V, A: Allocator + Copy>(items: &mut Vec<(K, V), A>) -> Result<(), Refused>
     ensures items { items.new.items ≡ items.old.items }
     ensures room { OnOk result (vec_len items.new < vec_capacity items.new) }
 {
@@ -65,9 +65,9 @@ fn make_room<K, V>(items: &mut Vec<(K, V)>) -> Result<(), Refused>
 
 /// Puts the pairs of a vector in, which is left empty. Of each key the last pair stays.
 pub fn put_pairs<K: Ord + Drop, V: Drop, S: StoreIntoIterator<K, V> + Drop>(
-    alloc: Global,
+    alloc: S::Alloc,
     store: &mut S,
-    pairs: &mut Vec<(K, V)>,
+    pairs: &mut Vec<(K, V), S::Alloc>,
     count: &mut Count,
 ) -> Result<(), Refused>
     requires { Rising K.cmp (S.pairs store.old) }

@@ -5,7 +5,7 @@ ghost use Rattle.std.specs.Prelude.{vec_len};
 ghost use Rattle.std.specs.List.Sorted.{IsSortedByClosure, IsStableByClosure};
 
 use crate::store::{StoreIntoIterator, StoreMut};
-use std::alloc::Global;
+use std::alloc::Allocator;
 use std::cmp::Ordering;
 
 /// A store or a vector refused to grow.
@@ -15,7 +15,10 @@ pub struct Refused {
 }
 
 /// `lm_with_capacity` of a store (own).
-pub fn with_capacity<K, V, S: StoreMut<K, V>>(alloc: Global, capacity: usize) -> Result<S, Refused>
+pub fn with_capacity<K, V, S: StoreMut<K, V>>(
+    alloc: S::Alloc,
+    capacity: usize,
+) -> Result<S, Refused>
     ensures empty { IfOk result (λ s. S.pairs s ≡ []) }
     ensures room { IfOk result (λ s. capacity ≤ S.room s) }
     ensures succeeds { capacity ≤ S.free_room → IsOk result }
@@ -42,9 +45,9 @@ pub(crate) fn sum(a: usize, b: usize) -> Result<usize, Refused>
 }
 
 /// std's `sort_by`.
-pub(crate) fn sort_by<T, F: FnMut(&T, &T) -> Ordering>(
+pub(crate) fn sort_by<T, A: Allocator, F: FnMut(&T, &T) -> Ordering>(
     items: &mut [T],
-    alloc: Global,
+    alloc: A,
     compare: F,
 ) -> Result<(), Refused>
     requires { F.IsAlwaysCallable compare }
@@ -59,7 +62,10 @@ pub(crate) fn sort_by<T, F: FnMut(&T, &T) -> Ordering>(
 }
 
 /// std's `split_off`.
-pub(crate) fn split_off<T>(items: &mut Vec<T>, at: usize) -> Result<Vec<T>, Refused>
+pub(crate) fn split_off<T, A: Allocator + Copy>(
+    items: &mut Vec<T, A>,
+    at: usize,
+) -> Result<Vec<T, A>, Refused>
     requires { at ≤ vec_len items.old }
     ensures items { OnOk result (items.new.items ≡ take at items.old.items) }
     ensures tail { IfOk result (λ rest. rest.items ≡ drop at items.old.items) }

@@ -6,6 +6,7 @@ ghost use Rattle.litemap_store.specs.{HintsExactly, count_is, first_is};
 
 use crate::reserved::push_reserved;
 use crate::store::{NoRoom, Store, StoreMut};
+use std::alloc::Allocator;
 use std::mem;
 use std::vec::IntoIter;
 
@@ -95,7 +96,7 @@ pub(crate) fn append_each<K: Drop, V: Drop, S: StoreMut<K, V>, I: PairIntoIter<K
     }
 }
 
-impl<K: Drop, V: Drop> PairIntoIter<K, V> for IntoIter<(K, V)> {
+impl<K: Drop, V: Drop, A: Allocator> PairIntoIter<K, V> for IntoIter<(K, V), A> {
     ghost owned = { into_iter_items };
 
     ghost can = { λ _. tt };
@@ -111,10 +112,10 @@ impl<K: Drop, V: Drop> PairIntoIter<K, V> for IntoIter<(K, V)> {
     }
 }
 
-impl<K: Drop, V: Drop> StoreIntoIterator<K, V> for Vec<(K, V)> {
-    type KeyValueIntoIter = IntoIter<(K, V)>;
+impl<K: Drop, V: Drop, A: Allocator + Copy> StoreIntoIterator<K, V> for Vec<(K, V), A> {
+    type KeyValueIntoIter = IntoIter<(K, V), A>;
 
-    fn lm_into_iter(self) -> IntoIter<(K, V)> {
+    fn lm_into_iter(self) -> IntoIter<(K, V), A> {
         self.into_iter()
     }
 

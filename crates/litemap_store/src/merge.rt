@@ -13,7 +13,6 @@ use crate::merge::side_by_side::merge_side_by_side;
 use crate::searches::{binary_digits, walk_is_cheaper};
 use crate::sorted::lies_below;
 use crate::store::{Count, NoRoom, StoreIntoIterator};
-use std::alloc::Global;
 
 // A merge inserts pairs one by one if there are fewer than this times the binary digits of both lengths' sum.
 const FEW_PER_DIGIT: usize = 3;
@@ -24,7 +23,7 @@ const FEW_PER_DIGIT: usize = 3;
 /// It is the body of a map's `extend_from_litemap`, which says what it compares and moves, and when it never fails. On an error
 /// the store keeps its pairs, and the error returns the other store whole.
 pub fn extend_from_store<K: Ord + Drop, V: Drop, S: StoreIntoIterator<K, V> + Drop>(
-    alloc: Global,
+    alloc: S::Alloc,
     store: &mut S,
     other: S,
     count: &mut Count,
@@ -64,7 +63,7 @@ pub fn extend_from_store<K: Ord + Drop, V: Drop, S: StoreIntoIterator<K, V> + Dr
 // Merges stores whose pairs are mixed, and returns what is displaced: side by side if the other one has many pairs, pair by pair
 // if it has few, else by one search for each of its pairs in one pass.
 fn merge_mixed<K: Ord + Drop, V: Drop, S: StoreIntoIterator<K, V> + Drop>(
-    alloc: Global,
+    alloc: S::Alloc,
     store: &mut S,
     other: S,
     count: &mut Count,

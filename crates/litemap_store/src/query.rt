@@ -8,6 +8,7 @@ ghost use Rattle.std.specs.Rc.{rc_str_bytes};
 ghost use Rattle.std.specs.declared.cmp.Ordering.{Ordering};
 ghost use Rattle.litemap_store.specs.{OneSide, Respects, by_slice, by_string, bytes_cmp, key_one_side, key_respects};
 
+use std::alloc::Allocator;
 use std::borrow::CowStr;
 use std::boxed::{BoxedSlice, BoxedStr};
 use std::cmp::Ordering;
@@ -58,7 +59,7 @@ impl<K: Ord> Query<K> for &K {
     }
 }
 
-impl Query<String> for &str {
+impl<A: Allocator> Query<String<A>> for &str {
     ghost Sought = { List ℕ };
 
     ghost sought = { λ q. q.now };
@@ -69,7 +70,7 @@ impl Query<String> for &str {
 
     ghost respects = { λ text x y. key_respects nat_list_cmp_total text (string_bytes x) (string_bytes y) };
 
-    fn compare_key(&self, key: &String) -> Ordering {
+    fn compare_key(&self, key: &String<A>) -> Ordering {
         key.as_str().cmp(*self)
     }
 }
@@ -90,7 +91,7 @@ impl<'k> Query<&'k str> for &str {
     }
 }
 
-impl Query<BoxedStr> for &str {
+impl<A: Allocator> Query<BoxedStr<A>> for &str {
     ghost Sought = { List ℕ };
 
     ghost sought = { λ q. q.now };
@@ -101,12 +102,12 @@ impl Query<BoxedStr> for &str {
 
     ghost respects = { λ text x y. key_respects nat_list_cmp_total text (boxed_str_bytes x) (boxed_str_bytes y) };
 
-    fn compare_key(&self, key: &BoxedStr) -> Ordering {
+    fn compare_key(&self, key: &BoxedStr<A>) -> Ordering {
         key.as_str().cmp(*self)
     }
 }
 
-impl Query<RcStr> for &str {
+impl<A: Allocator> Query<RcStr<A>> for &str {
     ghost Sought = { List ℕ };
 
     ghost sought = { λ q. q.now };
@@ -117,12 +118,12 @@ impl Query<RcStr> for &str {
 
     ghost respects = { λ text x y. key_respects nat_list_cmp_total text (rc_str_bytes x) (rc_str_bytes y) };
 
-    fn compare_key(&self, key: &RcStr) -> Ordering {
+    fn compare_key(&self, key: &RcStr<A>) -> Ordering {
         key.as_str().cmp(*self)
     }
 }
 
-impl Query<ArcStr> for &str {
+impl<A: Allocator> Query<ArcStr<A>> for &str {
     ghost Sought = { List ℕ };
 
     ghost sought = { λ q. q.now };
@@ -133,12 +134,12 @@ impl Query<ArcStr> for &str {
 
     ghost respects = { λ text x y. key_respects nat_list_cmp_total text (arc_str_bytes x) (arc_str_bytes y) };
 
-    fn compare_key(&self, key: &ArcStr) -> Ordering {
+    fn compare_key(&self, key: &ArcStr<A>) -> Ordering {
         key.as_str().cmp(*self)
     }
 }
 
-impl<'k> Query<CowStr<'k>> for &str {
+impl<'k, A: Allocator> Query<CowStr<'k, A>> for &str {
     ghost Sought = { List ℕ };
 
     ghost sought = { λ q. q.now };
@@ -149,12 +150,12 @@ impl<'k> Query<CowStr<'k>> for &str {
 
     ghost respects = { λ text x y. key_respects nat_list_cmp_total text (cow_str_bytes x) (cow_str_bytes y) };
 
-    fn compare_key(&self, key: &CowStr<'k>) -> Ordering {
+    fn compare_key(&self, key: &CowStr<'k, A>) -> Ordering {
         key.as_str().cmp(*self)
     }
 }
 
-impl<T: Ord> Query<Vec<T>> for &[T] {
+impl<T: Ord, A: Allocator> Query<Vec<T, A>> for &[T] {
     ghost Sought = { List T };
 
     ghost sought = { λ q. q.now };
@@ -165,7 +166,7 @@ impl<T: Ord> Query<Vec<T>> for &[T] {
 
     ghost respects = { λ slice x y. key_respects (lists_total T.total) slice x.items y.items };
 
-    fn compare_key(&self, key: &Vec<T>) -> Ordering {
+    fn compare_key(&self, key: &Vec<T, A>) -> Ordering {
         key.as_slice().cmp(*self)
     }
 }
@@ -186,7 +187,7 @@ impl<'k, T: Ord> Query<&'k [T]> for &[T] {
     }
 }
 
-impl<T: Ord> Query<BoxedSlice<T>> for &[T] {
+impl<T: Ord, A: Allocator> Query<BoxedSlice<T, A>> for &[T] {
     ghost Sought = { List T };
 
     ghost sought = { λ q. q.now };
@@ -199,7 +200,7 @@ impl<T: Ord> Query<BoxedSlice<T>> for &[T] {
     ghost respects = { λ slice x y. key_respects
         (lists_total T.total) slice (boxed_slice_items x) (boxed_slice_items y) };
 
-    fn compare_key(&self, key: &BoxedSlice<T>) -> Ordering {
+    fn compare_key(&self, key: &BoxedSlice<T, A>) -> Ordering {
         key.as_slice().cmp(*self)
     }
 }

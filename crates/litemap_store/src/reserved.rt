@@ -4,7 +4,7 @@ ghost use Rattle.std.specs.Prelude.{slice_index_or, slice_range, take, vec_capac
 
 use crate::growth::{Refused, with_capacity};
 use crate::store::{Store, StoreMut};
-use std::alloc::Global;
+use std::alloc::Allocator;
 use std::mem;
 use std::ops::Range;
 
@@ -13,9 +13,9 @@ const PART_BYTES: usize = 2048;
 
 /// Returns a vector and a store, both empty, each with room for `len` pairs.
 pub(crate) fn room_for<K: Drop, V: Drop, S: StoreMut<K, V>>(
-    alloc: Global,
+    alloc: S::Alloc,
     len: usize,
-) -> Result<(Vec<(K, V)>, S), Refused>
+) -> Result<(Vec<(K, V), S::Alloc>, S), Refused>
     ensures side { IfOk result (λ made. made.0.items ≡ []) }
     ensures side_room { IfOk result (λ made. len ≤ vec_capacity made.0) }
     ensures store { IfOk result (λ made. S.pairs made.1 ≡ []) }
@@ -35,7 +35,7 @@ pub(crate) fn push_reserved<K: Drop, V: Drop, S: StoreMut<K, V>>(store: &mut S, 
 }
 
 /// Puts an item at an index, in a vector that has room, by one move of the later ones (own).
-pub fn insert_reserved<T>(items: &mut Vec<T>, index: usize, item: T)
+pub fn insert_reserved<T, A: Allocator>(items: &mut Vec<T, A>, index: usize, item: T)
     requires index { index ≤ vec_len items.old }
     requires room { vec_len items.old < vec_capacity items.old }
     ensures items { items.new.items ≡ insert items.old.items index item }
@@ -47,7 +47,7 @@ pub fn insert_reserved<T>(items: &mut Vec<T>, index: usize, item: T)
 }
 
 /// Removes the item at an index, and moves the later ones down by one (own).
-pub fn remove_at<T>(items: &mut Vec<T>, index: usize) -> T
+pub fn remove_at<T, A: Allocator>(items: &mut Vec<T, A>, index: usize) -> T
     requires { index < vec_len items.old }
     ensures value { result ≡ slice_index_or items.old.items index result }
     ensures items { items.new.items ≡ remove items.old.items index }
@@ -86,7 +86,10 @@ fn move_up<T>(items: &mut [T], from: usize, to: usize)
 }
 
 /// Appends pairs, in reverse order.
-pub(crate) fn put_up<K: Drop, V: Drop, S: StoreMut<K, V>>(store: &mut S, mut pairs: Vec<(K, V)>)
+pub(crate) fn put_up<K: Drop, V: Drop, S: StoreMut<K, V>, A: Allocator>(
+    store: &mut S,
+    mut pairs: Vec<(K, V), A>,
+)
     requires { length pairs.items ≤ S.room store.old }
     ensures { S.pairs store.new ≡ S.pairs store.old ++ reverse pairs.items }
 {
@@ -105,10 +108,10 @@ pub(crate) fn take_last<K, V, S: StoreMut<K, V>>(store: &mut S) -> (K, V)
 }
 
 /// Takes the pairs from an index on out of the store, the last one first.
-pub(crate) fn take_from<K: Drop, V: Drop, S: StoreMut<K, V>>(
+pub(crate) fn take_from<K: Drop, V: Drop, S: StoreMut<K, V>, A: Allocator>(
     store: &mut S,
     index: usize,
-    side: &mut Vec<(K, V)>,
+    side: &mut Vec<(K, V), A>,
 )
     requires index { index ≤ length (S.pairs store.old) }
     requires side_room { length side.old.items + length (S.pairs store.old) ≤ vec_capacity side.old + index }
@@ -134,7 +137,11 @@ pub fn drop_from<K: Drop, V: Drop, S: StoreMut<K, V>>(store: &mut S, len: usize)
 }
 
 /// Moves the items at the indices of a range to the end of a vector that has room for them (own).
-pub fn move_range<T: Drop>(items: &mut Vec<T>, range: Range<usize>, taken: &mut Vec<T>)
+pub fn move_range<T: Drop, A: Allocator>(
+    items: &mut Vec<T, A>,
+    range: Range<usize>,
+    taken: &mut Vec<T, A>,
+)
     requires ascends { range.start ≤ range.end }
     requires within { range.end ≤ vec_len items.old }
     requires room { vec_len taken.old + (range.end - range.start) ≤ vec_capacity taken.old }

@@ -2,7 +2,7 @@
 ghost use Rattle.std.specs.Prelude.{◌≡◌, ⊤, Some, length, slice_get};
 
 use crate::slice_search::{self, Keys};
-use crate::store::{Count, SliceIter, Store, StoreConstEmpty, StoreIterable, StoreSlice};
+use crate::store::{Count, SliceIter, Store, StoreConstEmpty, StoreIn, StoreIterable, StoreSlice};
 use std::alloc::{AllocError, Global};
 use std::cmp::Ordering;
 use std::ops::Range;
@@ -71,6 +71,10 @@ impl<'a, K, V> Keys<K, V> for SliceStore<'a, K, V> {
         let pair = &pairs[index];
         &pair.0
     }
+}
+
+impl<'a, K, V> StoreIn<K, V> for SliceStore<'a, K, V> {
+    type Alloc = Global;
 }
 
 impl<'a, K, V> StoreConstEmpty<K, V> for SliceStore<'a, K, V> {

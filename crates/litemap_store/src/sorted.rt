@@ -6,7 +6,7 @@ ghost use Rattle.litemap_store.specs.Last.{Last};
 
 use crate::growth::{Refused, sort_by};
 use crate::store::{Count, Store};
-use std::alloc::Global;
+use std::alloc::Allocator;
 
 /// Whether the keys ascend. It compares each with the one before it, until one doesn't ascend.
 pub(crate) fn is_rising<K: Ord, V>(pairs: &[(K, V)], count: &mut Count) -> bool
@@ -43,9 +43,9 @@ pub(crate) fn lies_below<K: Ord, V, S: Store<K, V>, T: Store<K, V>>(
 }
 
 /// Keeps the last pair of each key of those from an index on, in ascending order. If they ascend, nothing is sorted.
-pub(crate) fn keep_rising<K: Ord + Drop, V: Drop>(
-    alloc: Global,
-    pairs: &mut Vec<(K, V)>,
+pub(crate) fn keep_rising<K: Ord + Drop, V: Drop, A: Allocator>(
+    alloc: A,
+    pairs: &mut Vec<(K, V), A>,
     from: usize,
     count: &mut Count,
 ) -> Result<(), Refused>

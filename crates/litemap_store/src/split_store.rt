@@ -3,14 +3,14 @@ ghost use Rattle.std.specs.Prelude.{◌≡◌, ◌≢◌, ◌⊎◌, ◌+◌, �
 
 use crate::reserved::{put_up, room_for, take_from};
 use crate::store::StoreMut;
-use std::alloc::{AllocError, Global};
+use std::alloc::AllocError;
 use std::mem;
 
 /// Takes the pairs from an index on out of a store, into one of their own (own). The other pairs stay where they are.
 ///
 /// It is the body of a map's `split_off`, which says what it moves and when it fails.
 pub fn split_store<K: Drop, V: Drop, S: StoreMut<K, V> + Drop>(
-    alloc: Global,
+    alloc: S::Alloc,
     store: &mut S,
     index: usize,
 ) -> Result<S, AllocError>

@@ -9,14 +9,15 @@ use crate::retain::{SwapStore, retain};
 use crate::slice_search;
 use crate::store::{
     Count, KeepsMemory, NoRoom, SliceIter, SliceStore, Store, StoreAlloc, StoreBulkMut,
-    StoreConstEmpty, StoreFromIterable, StoreFromIterator, StoreIterable, StoreMut, StoreSlice,
+    StoreConstEmpty, StoreFromIterable, StoreFromIterator, StoreIn, StoreIterable, StoreMut,
+    StoreSlice,
 };
-use std::alloc::{AllocError, Global};
+use std::alloc::{AllocError, Allocator};
 use std::cmp::Ordering;
 use std::mem;
 use std::ops::Range;
 
-impl<K, V> Store<K, V> for Vec<(K, V)> {
+impl<K, V, A: Allocator> Store<K, V> for Vec<(K, V), A> {
     ghost pairs = { λ v. v.items };
 
     ghost room = { vec_room };
@@ -39,36 +40,40 @@ impl<K, V> Store<K, V> for Vec<(K, V)> {
     }
 }
 
-impl<K, V> StoreConstEmpty<K, V> for Vec<(K, V)> {
+impl<K, V, A: Allocator + Copy> StoreIn<K, V> for Vec<(K, V), A> {
+    type Alloc = A;
+}
+
+impl<K, V, A: Allocator + Copy> StoreConstEmpty<K, V> for Vec<(K, V), A> {
     ghost empty_room = { λ room. room ≡ 0 };
 
-    fn lm_empty(alloc: Global) -> Self {
+    fn lm_empty(alloc: A) -> Self {
         Vec::new(alloc)
     }
 }
 
-impl<K, V> StoreAlloc<K, V> for Vec<(K, V)> {
-    fn lm_alloc(&self) -> Global {
+impl<K, V, A: Allocator + Copy> StoreAlloc<K, V> for Vec<(K, V), A> {
+    fn lm_alloc(&self) -> A {
         *self.allocator()
     }
 }
 
-impl<K, V> StoreSlice<K, V> for Vec<(K, V)> {
+impl<K, V, A: Allocator> StoreSlice<K, V> for Vec<(K, V), A> {
     fn lm_get_range(&self, range: Range<usize>) -> Option<&[(K, V)]> {
         self.as_slice().get(range)
     }
 }
 
-impl<K, V> KeepsMemory<K, V> for Vec<(K, V)> {
+impl<K, V, A: Allocator + Copy> KeepsMemory<K, V> for Vec<(K, V), A> {
     ghost keeps = { tt };
 }
 
-impl<K, V> StoreMut<K, V> for Vec<(K, V)> {
+impl<K, V, A: Allocator + Copy> StoreMut<K, V> for Vec<(K, V), A> {
     ghost with_value = { vec_with_value };
 
     ghost keeps_memory = { ⊤ };
 
-    fn lm_with_capacity(alloc: Global, capacity: usize) -> Result<Self, AllocError> {
+    fn lm_with_capacity(alloc: A, capacity: usize) -> Result<Self, AllocError> {
         Vec::with_capacity(alloc, capacity)
     }
 
@@ -116,7 +121,7 @@ impl<K, V> StoreMut<K, V> for Vec<(K, V)> {
         self.clear();
     }
 
-    fn lm_try_clone(&self, alloc: Global) -> Result<Self, AllocError>
+    fn lm_try_clone(&self, alloc: A) -> Result<Self, AllocError>
     where
         K: Clone,
         V: Clone,
@@ -133,7 +138,7 @@ impl<K, V> StoreMut<K, V> for Vec<(K, V)> {
     ghost keeps_room = { vec_keeps_room };
 }
 
-impl<K: Drop, V: Drop> SwapStore<K, V> for Vec<(K, V)> {
+impl<K: Drop, V: Drop, A: Allocator> SwapStore<K, V> for Vec<(K, V), A> {
     fn lm_pair(&self, index: usize) -> (&K, &V) {
         let pair = &self[index];
         (&pair.0, &pair.1)
@@ -148,7 +153,7 @@ impl<K: Drop, V: Drop> SwapStore<K, V> for Vec<(K, V)> {
     }
 }
 
-impl<K: Ord + Drop, V: Drop> StoreBulkMut<K, V> for Vec<(K, V)> {
+impl<K: Ord + Drop, V: Drop, A: Allocator + Copy> StoreBulkMut<K, V> for Vec<(K, V), A> {
     ghost fails_for_pairs_only = { ⊤ };
 
     // Its contract takes the place of the trait's: it says length and capacity, from which the room follows.
@@ -163,7 +168,7 @@ impl<K: Ord + Drop, V: Drop> StoreBulkMut<K, V> for Vec<(K, V)> {
 
     fn lm_extend<I: IntoIterator<Item = (K, V)>>(
         &mut self,
-        alloc: Global,
+        alloc: A,
         iter: I,
         count: &mut Count,
     ) -> Result<(), AllocError> {
@@ -179,8 +184,8 @@ impl<K: Ord + Drop, V: Drop> StoreBulkMut<K, V> for Vec<(K, V)> {
 
     fn lm_extend_from_vec(
         &mut self,
-        alloc: Global,
-        given: &mut Vec<(K, V)>,
+        alloc: A,
+        given: &mut Vec<(K, V), A>,
         count: &mut Count,
     ) -> Result<(), AllocError> {
         match put_in_vec(alloc, self, given, count) {
@@ -190,8 +195,8 @@ impl<K: Ord + Drop, V: Drop> StoreBulkMut<K, V> for Vec<(K, V)> {
     }
 
     fn lm_sort_from_vec(
-        alloc: Global,
-        given: &mut Vec<(K, V)>,
+        alloc: A,
+        given: &mut Vec<(K, V), A>,
         count: &mut Count,
     ) -> Result<Self, AllocError> {
         let mut pairs = Self::new(alloc);
@@ -200,7 +205,7 @@ impl<K: Ord + Drop, V: Drop> StoreBulkMut<K, V> for Vec<(K, V)> {
     }
 }
 
-impl<'a, K: 'a, V: 'a> StoreIterable<'a, K, V> for Vec<(K, V)> {
+impl<'a, K: 'a, V: 'a, A: Allocator> StoreIterable<'a, K, V> for Vec<(K, V), A> {
     type KeyValueIter = SliceIter<'a, K, V>;
 
     fn lm_iter(&'a self) -> SliceIter<'a, K, V> {
@@ -208,11 +213,11 @@ impl<'a, K: 'a, V: 'a> StoreIterable<'a, K, V> for Vec<(K, V)> {
     }
 }
 
-impl<K: Ord + Drop, V: Drop> StoreFromIterable<K, V> for Vec<(K, V)> {
+impl<K: Ord + Drop, V: Drop, A: Allocator + Copy> StoreFromIterable<K, V> for Vec<(K, V), A> {
     ghost fails_for_pairs_only = { ⊤ };
 
     fn lm_sort_from_iter<I: IntoIterator<Item = (K, V)>>(
-        alloc: Global,
+        alloc: A,
         iter: I,
         count: &mut Count,
     ) -> Result<Self, AllocError> {
@@ -222,11 +227,11 @@ impl<K: Ord + Drop, V: Drop> StoreFromIterable<K, V> for Vec<(K, V)> {
     }
 }
 
-impl<K: Drop, V: Drop> StoreFromIterator<K, V> for Vec<(K, V)> {
+impl<K: Drop, V: Drop, A: Allocator + Copy> StoreFromIterator<K, V> for Vec<(K, V), A> {
     ghost fails_for_pairs_only = { ⊤ };
 
     fn lm_from_pairs<I: IntoIterator<Item = (K, V)>>(
-        alloc: Global,
+        alloc: A,
         iter: I,
     ) -> Result<Self, AllocError> {
         let mut pairs = Self::new(alloc);

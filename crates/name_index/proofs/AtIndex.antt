@@ -1,8 +1,9 @@
 -- Entries at their indices: the one at an index, one more of them, and whether their keys ascend.
 use Rattle.std.proofs.Common.{◌≡◌, true, false, ℕ, zero, suc, ◌+◌, ◌<◌, List, [], ◌∷◌, ◌++◌, length, get_or, Option, Some, None, slice_get, refl, sym, ap, ◌∙◌}
-use Rattle.std.proofs.Common.{◌-◌, ◌≤◌, drop, min, slice_range, take, subst, arith, length-append, Bor, is_lt, Less, Ok, Err}
+use Rattle.std.proofs.Common.{◌-◌, ◌*◌, ◌≤◌, drop, min, slice_range, take, subst, arith, length-append, lt_of_not-le, Bor, is_lt, Less, Ok, Err}
 use Rattle.std.proofs.Math.Logic.{∥∥₁_elim}
-use Rattle.std.proofs.lemmas.List.{drop_more, length-drop, length-take, take_min}
+use Rattle.std.proofs.lemmas.List.{drop_more, get_or-take, length-drop, length-take, same_lists, take-append-le, take_min}
+use Rattle.std.proofs.lemmas.List.Sums.{sum_by-cons, sum_by-take-le, sum_by_push}
 use Rattle.std.proofs.lemmas.Option.{get_or_from_slice_get, slice_get-get_or}
 use Rattle.std.specs.Cmp.{IsTotalOrder}
 use Rattle.std.specs.Iterator.{MakesProgress, at_most}
@@ -14,7 +15,11 @@ use Rattle.litemap_store.proofs.Lists.Ends.{AllBelow-from_last, Rising-push}
 use Rattle.litemap_store.proofs.Lists.Parts.{Less-from_is_lt, Less-from_Rising}
 use Rattle.litemap_store.proofs.Search.Splitting.{there-from_Splits}
 use Rattle.name_index.specs.{AreNames, Listed, comes_after, names_one, pairs_set, text_order, HasKey, IsEntry, IsIndex, IsKeyAt, NoEntry}
-use Rattle.name_index.specs.{NoNames, entry_one, number_one, text_one}
+use Rattle.name_index.specs.{IfOverlapping, IsNumberAt, NoEntries, Overlaps, entries_size, entry_one, number_one}
+use Rattle.name_index.specs.{pair_size, text_one}
+use Rattle.name_index.specs.declared.error.IndexFault.{IndexFault}
+use Rattle.name_index.specs.declared.error.IndexFault.TheVariants.{NotAscending, NotUtf8, Overlapping, Truncated}
+use Rattle.name_index.proofs.Writing.{text_within}
 
 pub text_order_total : IsTotalOrder text_order
 text_order_total = on_texts (λ (a : List ℕ). a)
@@ -42,6 +47,15 @@ module _ {At : ℕ → List ℕ × List ℕ → Type 0} {len : ℕ} {pairs : Lis
   -- an entry that is read there is the one of the list
   pub name_is : ((i : ℕ) (p q : List ℕ × List ℕ) → At i p → At i q → p ≡ q) → (pair : List ℕ × List ℕ) → At i pair → slice_get pairs i ≡ Some pair
   name_is one pair h = name_at.1 ∙ ap Some (one i name_at.0 pair name_at.2 h)
+
+-- so many names are the first ones of more
+pub names_first : (At : ℕ → List ℕ × List ℕ → Type 0) → ((i : ℕ) (p q : List ℕ × List ℕ) → At i p → At i q → p ≡ q) → (n len : ℕ) → n ≤ len
+    → (J K : List (List ℕ × List ℕ)) → AreNames At n J → AreNames At len K → J ≡ take n K
+names_first At one n len l J K a b =
+    same_lists J (take n K) (omega (arith, a.number, length-take n K, b.number, l)) (λ k d h.
+    let f : k < length K = omega (arith, h, a.number, b.number, l) in
+    one k (get_or J k d) (get_or K k d) (a.each k (get_or J k d) (slice_get-get_or J k d h)) (b.each k (get_or K k d) (slice_get-get_or K k d f))
+    ∙ sym (get_or-take n K k d (omega (arith, h, a.number))))
 
 -- ---- between two indices
 
@@ -151,9 +165,14 @@ module _ {bytes : List ℕ} {len : ℕ} {pairs : List (List ℕ × List ℕ)} (a
       let k : t.0.0 ≡ key = text_one bytes _ t.0.0 key (rw (← e) t.2.2.0) h.2 in
       (t.0.1, t.1 ∙ ap (λ s. Some (s, t.0.1)) k)
 
+-- an entry lies within the bytes, after the offsets
+pub entry_within : (bytes : List ℕ) (len index : ℕ) (pair : List ℕ × List ℕ) → IsEntry bytes len index pair → 4 + 4 * len + pair_size pair ≤ length bytes
+entry_within bytes len index pair r =
+    omega (arith, text_within bytes (4 + 4 * len + r.0 + 4 + length pair.0) pair.1 r.2.1)
+
 -- if an entry is missing, so are all
-pub missing : {bytes : List ℕ} {len : ℕ} (index : ℕ) → index < len → NoEntry bytes len index → NoNames (IsEntry bytes len) len
-missing index l none pairs a = entry_there a index l none
+pub missing : {bytes : List ℕ} {len : ℕ} (index : ℕ) → index < len → NoEntry bytes len index → NoEntries bytes len
+missing index l none pairs a fits = entry_there a index l none
 
 -- bytes have one index
 pub index_unique : (bytes : List ℕ) (J K : List (List ℕ × List ℕ)) → IsIndex bytes J → IsIndex bytes K → J ≡ K
@@ -161,34 +180,103 @@ index_unique bytes J K x y =
     let e : y.len ≡ x.len = number_one bytes 0 y.len x.len y.number x.number in
     names_one (IsEntry bytes x.len) (entry_one bytes x.len) x.len J K x.entries (subst (λ n. AreNames (IsEntry bytes n) n K) e y.entries)
 
+-- entries that take no more bytes than there are after the offsets are an index
+pub is_index : (bytes : List ℕ) (len : ℕ) (pairs : List (List ℕ × List ℕ)) → IsNumberAt bytes 0 len → AreNames (IsEntry bytes len) len pairs
+    → entries_size pairs ≤ length bytes - (4 + 4 * len) → IsIndex bytes pairs
+is_index bytes len [] n a h = record { len = len; number = n; entries = a; fits = omega (arith, n.within) }
+is_index bytes len (p ∷ pairs) n a h = record { len = len; number = n; entries = a; fits = omega (arith, h, sum_by-cons pair_size p pairs, a.number) }
+
+pub if_overlapping_weaker : {P Q : ℕ → Type 0} (error : IndexFault) → ((index : ℕ) → P index → Q index) → IfOverlapping error P → IfOverlapping error Q
+if_overlapping_weaker (Truncated at) h p = tt
+if_overlapping_weaker (NotUtf8 at) h p = tt
+if_overlapping_weaker (NotAscending index) h p = tt
+if_overlapping_weaker (Overlapping index) h p = h index p
+
 -- ---- a check's state
 
--- the first entries were read, and their keys ascend
-pub record Followed (bytes : List ℕ) (len : ℕ) (last : Option (Bor (List ℕ))) (index : ℕ) : Type 0 where
+-- the first entries were read, their keys ascend, and so many bytes are left
+pub record Followed (bytes : List ℕ) (len : ℕ) (last : Option (Bor (List ℕ))) (left index : ℕ) : Type 0 where
   pub pairs : List (List ℕ × List ℕ)
   pub names : AreNames (IsEntry bytes len) index pairs
   pub last_is : LastKey last pairs
+  pub left_is : left + entries_size pairs ≡ length bytes - (4 + 4 * len)
 
-pub followed_next : (bytes : List ℕ) (len index : ℕ) (last : Option (Bor (List ℕ))) (key value : Bor (List ℕ)) → Followed bytes len last index
-    → IsEntry bytes len index (key.now, value.now) → comes_after last key.now ≡ true → Followed bytes len (Some key) (index + 1)
-followed_next bytes len index last key value f r a = record {
+pub followed_next : (bytes : List ℕ) (len index : ℕ) (last : Option (Bor (List ℕ))) (left next : ℕ) (key value : Bor (List ℕ))
+    → Followed bytes len last left index → IsEntry bytes len index (key.now, value.now) → comes_after last key.now ≡ true
+    → next + pair_size (key.now, value.now) ≡ left → Followed bytes len (Some key) next (index + 1)
+followed_next bytes len index last left next key value f r a e = record {
   pairs = f.pairs ++ (key.now, value.now) ∷ [];
   names = names_push f.pairs last (key.now, value.now) f.names f.last_is a (λ i p h. h) r;
   last_is = (f.pairs, value.now, refl);
+  left_is = omega (arith, f.left_is, sum_by_push pair_size f.pairs (key.now, value.now), e);
 }
 
--- if the next key isn't above the last one, the bytes are no index
-pub falls : (bytes : List ℕ) (len index : ℕ) (last : Option (Bor (List ℕ))) (key value : List ℕ) → index < len → Followed bytes len last index
-    → IsEntry bytes len index (key, value) → comes_after last key ≡ false → NoNames (IsEntry bytes len) len
-falls bytes len index None key value l f r e pairs a = let h : true ≡ false = e in absurd (cc)
-falls bytes len index (Some last) key value l f r e pairs a =
+-- if the next entry takes more bytes than are left, the entries overlap
+pub overlaps : (bytes : List ℕ) (len index : ℕ) (last : Option (Bor (List ℕ))) (left : ℕ) (key value : List ℕ) → index < len
+    → Followed bytes len last left index → IsEntry bytes len index (key, value) → comes_after last key ≡ true → left < pair_size (key, value)
+    → Overlaps bytes len index
+overlaps bytes len index last left key value l f r a h = record {
+  within = l;
+  before = f.pairs;
+  pair = (key, value);
+  entries = names_push f.pairs last (key, value) f.names f.last_is a (λ i p h. h) r;
+  fits = omega (arith, f.left_is, entry_within bytes len index (key, value) r);
+  exceeds = omega (arith, f.left_is, h, sum_by_push pair_size f.pairs (key, value), entry_within bytes len index (key, value) r);
+}
+
+-- with the entry at which they overlap, entries take more bytes than there are
+pub exceeded : (bytes : List ℕ) (len index n : ℕ) → Overlaps bytes len index → index < n → (pairs : List (List ℕ × List ℕ))
+    → AreNames (IsEntry bytes len) n pairs → length bytes < 4 + 4 * len + entries_size pairs
+exceeded bytes len index n o l pairs a =
+    let L = o.before ++ o.pair ∷ [] in
+    let e : L ≡ take (index + 1) pairs = names_first (IsEntry bytes len) (entry_one bytes len) (index + 1) n (omega (arith, l)) L pairs o.entries a in
+    omega (arith, o.exceeds, ap entries_size e, sum_by-take-le pair_size pairs (index + 1))
+
+-- the entries of an index don't overlap
+pub overlaps_none : (bytes : List ℕ) (len index : ℕ) → Overlaps bytes len index → NoEntries bytes len
+overlaps_none bytes len index o pairs a fits = omega (arith, exceeded bytes len index len o o.within pairs a, fits, a.number)
+
+-- those that were followed don't overlap
+pub followed_short : (bytes : List ℕ) (len index other : ℕ) (last : Option (Bor (List ℕ))) (left : ℕ) → Followed bytes len last left index
+    → Overlaps bytes len other → index ≤ other
+followed_short bytes len index other last left f o =
+    let h : index < other + 1 = lt_of_not-le (λ (l : other + 1 ≤ index).
+    let x = exceeded bytes len other index o (omega (arith, l)) f.pairs f.names in
+    let absent : ⊥ = omega (arith, x, f.left_is, o.fits) in
+    absent) in
+    omega (arith, h)
+
+-- they overlap at one index
+overlaps_least : (bytes : List ℕ) (len i j : ℕ) → Overlaps bytes len i → Overlaps bytes len j → i ≤ j
+overlaps_least bytes len i j o p =
+    let h : i < j + 1 = lt_of_not-le (λ (l : j + 1 ≤ i).
+    let size : length o.before ≡ i = omega (arith, o.entries.number, length-append o.before (o.pair ∷ [])) in
+    let L = p.before ++ p.pair ∷ [] in
+    let M = o.before ++ o.pair ∷ [] in
+    let e : L ≡ take (j + 1) M =
+    names_first (IsEntry bytes len) (entry_one bytes len) (j + 1) (i + 1) (omega (arith, l)) L M p.entries o.entries in
+    let s : take (j + 1) M ≡ take (j + 1) o.before = take-append-le (j + 1) o.before (o.pair ∷ []) (omega (arith, l, size)) in
+    let absent : ⊥ = omega (arith, p.exceeds, ap entries_size (e ∙ s), sum_by-take-le pair_size o.before (j + 1), o.fits) in
+    absent) in
+    omega (arith, h)
+
+pub overlaps_once : (bytes : List ℕ) (len i j : ℕ) → Overlaps bytes len i → Overlaps bytes len j → i ≡ j
+overlaps_once bytes len i j o p = omega (arith, overlaps_least bytes len i j o p, overlaps_least bytes len j i p o)
+
+-- if the next key isn't above the last one, there are no more entries whose keys ascend
+pub falls : (bytes : List ℕ) (len n index : ℕ) (last : Option (Bor (List ℕ))) (left : ℕ) (key value : List ℕ) → index < n
+    → Followed bytes len last left index → IsEntry bytes len index (key, value) → comes_after last key ≡ false
+    → (pairs : List (List ℕ × List ℕ)) → AreNames (IsEntry bytes len) n pairs → ⊥
+falls bytes len n index None left key value l f r e pairs a = let h : true ≡ false = e in absurd (cc)
+falls bytes len n index (Some last) left key value l f r e pairs a =
     let front = f.last_is.0 in
     let p : List ℕ × List ℕ = (last.now, f.last_is.1) in
     let size : index ≡ length front + 1 = omega (arith, f.names.number, ap length f.last_is.2, length-append front (p ∷ [])) in
     let g : slice_get f.pairs (length front) ≡ Some p = rw f.last_is.2 (last_at front p) in
     let before : index - 1 ≡ length front = omega (arith, size) in
-    let h = entry_is a (length front) (omega (arith, size, l)) p (f.names.each (length front) p g) in
+    let h = name_is a (length front) (omega (arith, size, l)) (entry_one bytes len) p (f.names.each (length front) p g) in
+    let here = name_is a index l (entry_one bytes len) (key, value) r in
     let is : text_order last.now key ≡ Less =
-    Less-from_Rising text_order pairs index p (key, value) (omega (arith, size)) a.rises (rw before h) (entry_is a index l (key, value) r) in
+    Less-from_Rising text_order pairs index p (key, value) (omega (arith, size)) a.rises (rw before h) here in
     let k : is_lt (text_order last.now key) ≡ true = ap is_lt is in
     absurd (cc)

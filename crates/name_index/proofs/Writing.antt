@@ -2,7 +2,7 @@
 use Rattle.std.proofs.Common.{◌≡◌, ℕ, ◌+◌, ◌*◌, ◌<◌, ◌≤◌, List, [], ◌∷◌, ◌++◌, length, take, drop, map, get_or, slice_get, Some, refl, sym, ap, ◌∙◌, arith}
 use Rattle.std.proofs.Common.{append_assoc, length-append, inl, inr, eq-or-lt_of_le, option_map, Bor}
 use Rattle.std.specs.Int.{from_le_bytes, w32}
-use Rattle.std.proofs.lemmas.List.{drop-append-le, length-drop, length-take, take-append-le, length-map}
+use Rattle.std.proofs.lemmas.List.{drop-append-le, length-drop, length-take, take-append-le, take_all, length-map}
 use Rattle.std.proofs.lemmas.List.Sums.{sum_by-cons, sum_by-take-le, sum_by_more}
 use Rattle.std.proofs.lemmas.Option.{get_or_from_slice_get, slice_get-get_or, slice_get-map, slice_get_within}
 use Rattle.litemap.specs.ByBytes.{by_bytes}
@@ -112,6 +112,9 @@ index_written old new pairs p a rises = record {
         (far, number_kept old new (entries_size (take (length pairs) pairs)) (4 + 4 * i) far a.adds (p.noted i l), rw (← w) (a.there i pair l e));
     rises = rises;
   };
+  fits =
+      let whole : entries_size (take (length pairs) pairs) ≡ entries_size pairs = ap entries_size (take_all (length pairs) pairs (omega arith)) in
+      omega (arith, adds_length old new (entries_size (take (length pairs) pairs)) a.adds, p.size, whole);
 }
 
 -- ---- a map's pairs, as what they refer to

@@ -1,5 +1,5 @@
 -- What the steps of opening, of lookups and of writing find and leave. Only private contracts and invariants cite these.
-use Rattle.std.specs.Prelude.{◌≡◌, ℕ, ◌+◌, ◌*◌, ◌<◌, ◌≤◌, Bool, true, false, List, [], ◌∷◌, ◌++◌, ◌||◌}
+use Rattle.std.specs.Prelude.{◌≡◌, ℕ, ◌+◌, ◌*◌, ◌-◌, ◌<◌, ◌≤◌, Bool, true, false, List, [], ◌∷◌, ◌++◌, ◌||◌}
 use Rattle.std.specs.Prelude.{length, take, drop, Option, None, Some, slice_get, if◌then◌else◌}
 use Rattle.std.specs.Coded.{Coded-set, coded_ℕ, coded_list, coded×}
 use Rattle.std.specs.Ordering.{is_lt}
@@ -12,7 +12,7 @@ use Rattle.std.proofs.lemmas.Option.{slice_get-get_or}
 use mathlib.Core.HLevel.{Σ_prop_path}
 use Rattle.name_table.specs.Parts.{Begins, pair_parts, text_parts}
 use Rattle.name_table.proofs.OneReading.{agree_pairs, begins_unique, pair_parts-inj}
-use Rattle.name_index.specs.Index.{IsEntry, IsNumberAt, IsPairAt, IsTextAt, entries_size}
+use Rattle.name_index.specs.Index.{IsEntry, IsNumberAt, IsPairAt, IsTextAt, entries_size, index_size}
 use Rattle.name_index.specs.Names.{AreNames, begins, text_order}
 use Rattle.name_index.specs.Tables.{IsRisingTable}
 use denote.Ref.{Bor}
@@ -51,12 +51,14 @@ HasKey bytes len index key after = (far : ℕ) × IsNumberAt bytes (4 + 4 * inde
 abbrev pub NoEntry : List ℕ → ℕ → ℕ → Type 0
 NoEntry bytes len index = (pair : List ℕ × List ℕ) → IsEntry bytes len index pair → ⊥
 
--- so many entries are there, or they are not
-abbrev pub HasNames : (ℕ → List ℕ × List ℕ → Type 0) → ℕ → Type 0
-HasNames At len = (pairs : List (List ℕ × List ℕ)) × AreNames At len pairs
+-- so many entries are there, and take no more bytes than there are after the offsets
+abbrev pub HasEntries : List ℕ → ℕ → Type 0
+HasEntries bytes len = (pairs : List (List ℕ × List ℕ))
+    × AreNames (IsEntry bytes len) len pairs × (entries_size pairs ≤ length bytes - (4 + 4 * len))
 
-abbrev pub NoNames : (ℕ → List ℕ × List ℕ → Type 0) → ℕ → Type 0
-NoNames At len = (pairs : List (List ℕ × List ℕ)) → AreNames At len pairs → ⊥
+-- they are not all there, or an index of them takes more bytes than there are
+abbrev pub NoEntries : List ℕ → ℕ → Type 0
+NoEntries bytes len = (pairs : List (List ℕ × List ℕ)) → AreNames (IsEntry bytes len) len pairs → index_size pairs ≤ length bytes → ⊥
 
 -- whether a key is above the last one, if there is one
 abbrev pub comes_after : Option (Bor (List ℕ)) → List ℕ → Bool

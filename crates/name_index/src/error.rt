@@ -65,4 +65,10 @@ pub enum IndexFault {
         /// Which entry it is.
         index: usize,
     },
+    /// Entries overlap: those up to this one take more bytes than there are.
+    #[error("the entries up to the entry {index} take more bytes than there are")]
+    Overlapping {
+        /// Which entry it is.
+        index: usize,
+    },
 }

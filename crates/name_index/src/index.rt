@@ -108,7 +108,7 @@ impl<'a> NameIndex<'a> {
     ///
     /// It fails only if memory runs out. It takes memory for all entries at once, and none if there is no entry.
     pub fn to_map(&self, alloc: Global) -> Result<NameMap<'a>, AllocError>
-        ensures pairs { IfOk result (λ made. map shown made.pairs ≡ self.now) }
+        ensures pairs { IfOk result (λ made. map shown made.entries ≡ self.now) }
         ensures refused_some { OnErr result (0 < length self.now) }
     {
         let mut pairs = Vec::with_capacity(alloc, self.number())?;

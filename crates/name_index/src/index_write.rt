@@ -14,7 +14,7 @@ use name_table::parts::NUMBER_LIMIT;
 use std::alloc::Global;
 
 /// The bytes of the two numbers of an entry: one stands before its key, one before its value.
-const ENTRY_NUMBERS: usize = 8;
+pub const ENTRY_NUMBERS: usize = 8;
 
 /// Writes the index of pairs whose keys strictly ascend, as those of a map's `as_slice` or of a constant table do. Returns its
 /// bytes.

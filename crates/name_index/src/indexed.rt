@@ -1,6 +1,7 @@
 //! Names looked up by the offsets that stand before them in the bytes.
-ghost use Rattle.std.specs.Prelude.{IfErr, IfOk};
-ghost use Rattle.name_index.specs.{IsEntry, IsIndex, Listed, Listed-prop, NoIndex, entry_one};
+ghost use Rattle.std.specs.Prelude.{◌≡◌, Err, IfErr, IfOk};
+ghost use Rattle.name_index.specs.{IfOverlapping, IsEntry, IsIndex, IsOverlapping, Listed, Listed-prop, NoIndex, entry_one};
+ghost use Rattle.name_index.specs.declared.error.IndexFault.TheVariants.{Overlapping};
 
 use crate::error::IndexFault;
 use crate::index_bytes::{entry_of, follow, key_of, number_at};
@@ -54,13 +55,15 @@ impl<'a> Names<'a> for IndexedNames<'a> {}
 
 impl<'a> IndexedNames<'a> {
     /// Opens the index that the bytes are. All entries are read once, and each key is compared with the one before it; no later
-    /// call fails.
+    /// call fails. It takes time linear in the bytes.
     ///
-    /// The error is that of the number of entries, or of the first entry that can't be read, or whose key isn't above the one
-    /// before it.
+    /// The error is that of the number of entries, or of the first entry that can't be read, whose key isn't above the one
+    /// before it, or with which the entries take more bytes than there are (`Overlapping`).
     pub fn open(bytes: &'a [u8]) -> Result<Self, IndexFault>
         ensures index { IfOk result (IsIndex bytes.now) }
         ensures error { IfErr result (λ _. NoIndex bytes.now) }
+        ensures overlapping { IfErr result (λ error. IfOverlapping error (IsOverlapping bytes.now)) }
+        ensures overlaps { (index : _) → IsOverlapping bytes.now index → result ≡ Err (Overlapping index) }
     {
         let len = number_at(bytes, 0)?;
         follow(bytes, len)?;

@@ -32,7 +32,7 @@ pub fn read_names<'a>(
     alloc: Global,
     bytes: &'a [u8],
 ) -> Result<(NameMap<'a>, usize), ReadFault<NameFault>>
-    ensures read { IfOk result (λ read. IsRead bytes.now read.0.pairs read.1) }
+    ensures read { IfOk result (λ read. IsRead bytes.now read.0.entries read.1) }
     ensures error { IfErr result (IsUnread bytes.now) }
 {
     let mut names = NameBytes::new(bytes)?;

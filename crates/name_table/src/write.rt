@@ -19,10 +19,10 @@ use std::alloc::{AllocError, Global};
 /// Ok(bytes.as_slice() == b"\x01\x02de\x06German".as_slice())
 /// ```
 pub fn write_names(alloc: Global, names: &NameMap<'_>) -> Result<Vec<u8>, NameWriteFault>
-    ensures table { IfOk result (λ bytes. IsShortest bytes.items (table_parts (map shown names.now.pairs))) }
-    ensures read_again { IfOk result (λ bytes. IsReadAgain bytes.items names.now.pairs) }
+    ensures table { IfOk result (λ bytes. IsShortest bytes.items (table_parts (map shown names.now.entries))) }
+    ensures read_again { IfOk result (λ bytes. IsReadAgain bytes.items names.now.entries) }
     ensures too_large { IfErr result (λ error. IfTooLarge error
-        ((bytes : List ℕ) → AreParts bytes (table_parts (map shown names.now.pairs)) → ⊥)) }
+        ((bytes : List ℕ) → AreParts bytes (table_parts (map shown names.now.entries)) → ⊥)) }
 {
     let pairs = names.as_slice();
     let mut bytes = Vec::new(alloc);

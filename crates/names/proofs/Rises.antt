@@ -13,17 +13,17 @@ use Rattle.names_core.specs.declared.line.Command.TheVariants.{Del, Find, Get, P
 abbrev pub TextsRise : List (List ℕ × List ℕ) → Type 0
 TextsRise L = Rising bytes_cmp L
 
-module _ (old next : TextMap) (said text : List ℕ) (rises : TextsRise old.pairs) where
-  same_rises : next ≡ old → TextsRise next.pairs
-  same_rises e = subst (λ (m : TextMap). TextsRise m.pairs) (sym e) rises
+module _ (old next : TextMap) (said text : List ℕ) (rises : TextsRise old.entries) where
+  same_rises : next ≡ old → TextsRise next.entries
+  same_rises e = subst (λ (m : TextMap). TextsRise m.entries) (sym e) rises
 
-  command_rises : (command : Command) → Replies old command text next → TextsRise next.pairs
-  command_rises (Put k v) (told, (puts, room, kept)) = subst TextsRise (sym puts) (Rising-put nat_list_cmp_total old.pairs k.now v.now rises)
+  command_rises : (command : Command) → Replies old command text next → TextsRise next.entries
+  command_rises (Put k v) (told, (puts, room, kept)) = subst TextsRise (sym puts) (Rising-put nat_list_cmp_total old.entries k.now v.now rises)
   command_rises (Get k) (told, same) = same_rises same
-  command_rises (Del k) (told, cuts, kept) = subst TextsRise (sym cuts) (Rising-cut nat_list_cmp_total old.pairs k.now rises)
+  command_rises (Del k) (told, cuts, kept) = subst TextsRise (sym cuts) (Rising-cut nat_list_cmp_total old.entries k.now rises)
   command_rises (Find k) (told, same) = same_rises same
 
-  line_rises : Does old said text next → TextsRise next.pairs
+  line_rises : Does old said text next → TextsRise next.entries
   line_rises does = elim does [
     | Nothing empty wrote same ↦ same_rises same
     | ShowsAll all wrote same ↦ same_rises same
@@ -31,7 +31,7 @@ module _ (old next : TextMap) (said text : List ℕ) (rises : TextsRise old.pair
     | Obeys command spells answers ↦ command_rises command answers
   ]
 
-pub lines_rise : (start end : TextMap) (said : List (List ℕ)) (text : List ℕ) → TextsRise start.pairs → DoesEach start said text end → TextsRise end.pairs
-lines_rise start end [] text rises (none, same) = subst (λ (m : TextMap). TextsRise m.pairs) (sym same) rises
+pub lines_rise : (start end : TextMap) (said : List (List ℕ)) (text : List ℕ) → TextsRise start.entries → DoesEach start said text end → TextsRise end.entries
+lines_rise start end [] text rises (none, same) = subst (λ (m : TextMap). TextsRise m.entries) (sym same) rises
 lines_rise start end (said ∷ more) text rises (first, rest, next, does, each, joined) =
     lines_rise next end more rest (line_rises start next said first rises does) each

@@ -57,7 +57,7 @@ fn read_value(alloc: Global, bytes: &[u8]) -> Result<Value, FlagsFault>
 }
 
 fn read_flags(alloc: Global, value: &Value) -> Result<FlagMap, FlagsFault>
-    ensures read { IfOk result (λ flags. FlagsReadAs (view value.now) flags.pairs) }
+    ensures read { IfOk result (λ flags. FlagsReadAs (view value.now) flags.entries) }
     ensures error { IfErr result
         (λ fault. (bytes : _) → IsJsonText bytes (view value.now) → IsFlagsFault bytes fault) }
 {
@@ -70,7 +70,7 @@ fn read_flags(alloc: Global, value: &Value) -> Result<FlagMap, FlagsFault>
 
 fn flags_text(alloc: Global, flags: &FlagMap) -> Result<String, FlagsFault>
     ensures text { IfOk result
-        (λ text. (value : Data) × (flags_tree flags.now.pairs ≡ Ok value) × (string_bytes text ≡ compact_text value)) }
+        (λ text. (value : Data) × (flags_tree flags.now.entries ≡ Ok value) × (string_bytes text ≡ compact_text value)) }
     ensures error { IfErr result (λ fault. (bytes : _) → IsFlagsFault bytes fault) }
 {
     let Ok(value) = to_json(alloc, flags) else {

@@ -1,5 +1,5 @@
 -- The sorted list of strings by their bytes: each word of `Pairs` gives the bytes of what it gives for the strings.
-use Rattle.std.proofs.Common.{◌≡◌, ◌++◌, ◌∷◌, ℕ, Bool, true, false, List, [], length, map, Some, None, Ok, Err, IsSome, IsNone, Global, String, cond, filter}
+use Rattle.std.proofs.Common.{◌≡◌, ◌++◌, ◌∷◌, ℕ, Bool, true, false, List, [], length, map, Some, None, Ok, Err, IsSome, IsNone, String, cond, filter}
 use Rattle.std.proofs.Common.{find, is_some, is_lt, is_eq, is_gt, option_map, string_bytes, string_cmp, refl, sym}
 use Rattle.std.proofs.lemmas.List.{length-map, map-append}
 use Rattle.litemap_store.specs.Pairs.{above, at, below, cut, index_of, key_or, put, value_at}
@@ -21,7 +21,7 @@ module _ {A B : Type 0} (v : A → B) (q : B → Bool) where
       (elim (q (v x)) as (λ b. cond b (Some (v x)) (option_map v (find (λ x. q (v x)) xs)) ≡ option_map v (cond b (Some x) (find (λ x. q (v x)) xs)))
       [ true ↦ refl | false ↦ refl ])
 
-module _ (L : List (String Global × String Global)) (k : List ℕ) where
+module _ {A : Type 0} (L : List (String A × String A)) (k : List ℕ) where
   below-bytes : below bytes_cmp (map pair_bytes L) k ≡ map pair_bytes (below by_string L k)
   below-bytes = filter-map pair_bytes (λ p. is_lt (bytes_cmp p.0 k)) L
 
@@ -52,7 +52,7 @@ module _ (L : List (String Global × String Global)) (k : List ℕ) where
   pub absent : IsNone (at bytes_cmp (map pair_bytes L) k) → IsNone (at by_string L k)
   absent h = (elim (at by_string L k) as (λ o. IsNone (option_map pair_bytes o) → IsNone o) [ None ↦ λ h. h | Some p ↦ λ h. h ]) (rw at-bytes at h)
 
-pub put-bytes : (L : List (String Global × String Global)) (k v : String Global) → put bytes_cmp (map pair_bytes L) (string_bytes k) (string_bytes v)
+pub put-bytes : {A : Type 0} (L : List (String A × String A)) (k v : String A) → put bytes_cmp (map pair_bytes L) (string_bytes k) (string_bytes v)
     ≡ map pair_bytes (put string_cmp L k v)
 put-bytes L k v =
     rw (below-bytes L (string_bytes k), above-bytes L (string_bytes k), at-bytes L (string_bytes k), map-append)

@@ -1,5 +1,5 @@
 -- The text and the tokens of pairs, one after another.
-use Rattle.std.proofs.Common.{◌≡◌, ◌∙◌, ◌==◌, ◌+◌, ◌<◌, ◌++◌, ◌∷◌, ℕ, true, false, List, [], Global, String, IfSome, ap, append_assoc, arith, flat_map, inl}
+use Rattle.std.proofs.Common.{◌≡◌, ◌∙◌, ◌==◌, ◌+◌, ◌<◌, ◌++◌, ◌∷◌, ℕ, true, false, List, [], String, IfSome, ap, append_assoc, arith, flat_map, inl}
 use Rattle.std.proofs.Common.{inr, length, map, refl, slice_get, sym, take}
 use Rattle.std.proofs.lemmas.List.{flat_map_more, take_more}
 use Rattle.std.proofs.lemmas.Option.{slice_get_cases}
@@ -21,7 +21,7 @@ flat_map_one_more front f xs i old new low so_far more =
 regroup : (name value rest : List ℕ) → (name ++ 58 ∷ []) ++ (value ++ rest) ≡ (name ++ (58 ∷ value)) ++ rest
 regroup name value rest = simp append_assoc
 
-print-later : (L : List (String Global × String Global)) → print_from true (flat_map (λ p. pair_tokens (pair_bytes p)) L ++ (end_object ∷ []))
+print-later : {A : Type 0} (L : List (String A × String A)) → print_from true (flat_map (λ p. pair_tokens (pair_bytes p)) L ++ (end_object ∷ []))
     ≡ later_members (map pair_bytes L) ++ (125 ∷ [])
 unfolding print_from
 print-later [] = refl
@@ -30,7 +30,7 @@ print-later (p ∷ L) =
     (regroup (quoted (pair_bytes p).0) (quoted (pair_bytes p).1) _
     ∙ sym (append_assoc (member_text (pair_bytes p)) (later_members (map pair_bytes L)) (125 ∷ []))))
 
-pub print-object : (L : List (String Global × String Global)) → (length L == 0) ≡ false
+pub print-object : {A : Type 0} (L : List (String A × String A)) → (length L == 0) ≡ false
     → print (begin_object ∷ (flat_map (λ p. pair_tokens (pair_bytes p)) L ++ (end_object ∷ []))) ≡ json_text (map pair_bytes L)
 unfolding print_from
 print-object [] some = absurd cc

@@ -63,24 +63,24 @@ json_answer L = line (json_text L)
 -- the value is put at the key: the room is lowered by one at most, and stays if the key was there
 abbrev pub Puts : TextMap → List ℕ → List ℕ → TextMap → Type 0
 Puts old key value next =
-    (next.pairs ≡ put bytes_cmp old.pairs key value) × (old.room ≤ next.room + 1)
-    × (IsSome (at bytes_cmp old.pairs key) → next.room ≡ old.room)
+    (next.entries ≡ put bytes_cmp old.entries key value) × (old.room ≤ next.room + 1)
+    × (IsSome (at bytes_cmp old.entries key) → next.room ≡ old.room)
 
 -- the command, done on the map `old`, has the text as its reply and leaves the map `next`
 abbrev pub Replies : TextMap → Command → List ℕ → TextMap → Type 0
 Replies old (Put key value) text next =
-    (text ≡ old_text (value_at bytes_cmp old.pairs key.now)) × Puts old key.now value.now next
-Replies old (Get key) text next = (text ≡ value_text (value_at bytes_cmp old.pairs key.now)) × (next ≡ old)
+    (text ≡ old_text (value_at bytes_cmp old.entries key.now)) × Puts old key.now value.now next
+Replies old (Get key) text next = (text ≡ value_text (value_at bytes_cmp old.entries key.now)) × (next ≡ old)
 Replies old (Del key) text next =
-    (text ≡ value_text (value_at bytes_cmp old.pairs key.now)) × (next.pairs ≡ cut bytes_cmp old.pairs key.now)
-    × (IsNone (at bytes_cmp old.pairs key.now) → next.room ≡ old.room)
-Replies old (Find key) text next = (text ≡ place_text (index_of bytes_cmp old.pairs key.now)) × (next ≡ old)
+    (text ≡ value_text (value_at bytes_cmp old.entries key.now)) × (next.entries ≡ cut bytes_cmp old.entries key.now)
+    × (IsNone (at bytes_cmp old.entries key.now) → next.room ≡ old.room)
+Replies old (Find key) text next = (text ≡ place_text (index_of bytes_cmp old.entries key.now)) × (next ≡ old)
 
 -- the line, done on the map `old`, writes the text and leaves the map `next`: the table of lines in docs/PROGRAM.md, defined
 pub data Does (old : TextMap) (said text : List ℕ) (next : TextMap) : Type 0 where
   Nothing : said ≡ [] → text ≡ [] → next ≡ old → Does old said text next
-  ShowsAll : SpellsAll said → text ≡ flat_map pair_text old.pairs → next ≡ old → Does old said text next
-  ShowsJson : SpellsJson said → text ≡ json_answer old.pairs → next ≡ old → Does old said text next
+  ShowsAll : SpellsAll said → text ≡ flat_map pair_text old.entries → next ≡ old → Does old said text next
+  ShowsJson : SpellsJson said → text ≡ json_answer old.entries → next ≡ old → Does old said text next
   Obeys : (command : Command) → Spells said command → Replies old command text next → Does old said text next
 
 -- the lines, done one after another from the map `old`, write the text and leave the map `end`
@@ -92,7 +92,7 @@ DoesEach old (said ∷ more) text end =
 
 -- the lines, done one after another from an empty map, write the text and leave the map `end`
 abbrev pub DoesAll : List (List ℕ) → List ℕ → TextMap → Type 0
-DoesAll said text end = (start : TextMap) × (start.pairs ≡ []) × DoesEach start said text end
+DoesAll said text end = (start : TextMap) × (start.entries ≡ []) × DoesEach start said text end
 
 -- the last line if line n is bad
 abbrev pub bad_line : ℕ → List ℕ

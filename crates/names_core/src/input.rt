@@ -5,6 +5,7 @@ ghost use Rattle.names_core.specs.ReadsUntil.{ReadsUntil};
 ghost use Rattle.names_core.specs.Watched.{NoCallAfterFault, met_fault};
 
 use crate::watch::Watch;
+use std::alloc::Allocator;
 use std::io::Read;
 
 /// The most bytes that a run takes.
@@ -28,7 +29,10 @@ pub enum InputEnd {
 
 /// Reads to the end of the input, or until it is longer than `MOST_BYTES`, and returns which of these, or what failed. Capacity
 /// is reserved before each read, so that no byte that was read is lost.
-pub fn read_input<R: Read>(reader: &mut Watch<R>, input: &mut Vec<u8>) -> InputEnd
+pub fn read_input<R: Read, A: Allocator + Copy>(
+    reader: &mut Watch<R>,
+    input: &mut Vec<u8, A>,
+) -> InputEnd
     requires { input.old.items ≡ [] }
     ensures consumed { Consumes (R.remaining reader.old.inner) (R.remaining reader.new.inner) input.new.items }
     ensures bounded { vec_len input.new ≤ MOST_BYTES + 1 }
@@ -44,7 +48,10 @@ pub fn read_input<R: Read>(reader: &mut Watch<R>, input: &mut Vec<u8>) -> InputE
 }
 
 // Makes one read. Returns how reading ended, or `None` if it got at least a byte.
-fn read_some<R: Read>(reader: &mut Watch<R>, input: &mut Vec<u8>) -> Option<InputEnd>
+fn read_some<R: Read, A: Allocator + Copy>(
+    reader: &mut Watch<R>,
+    input: &mut Vec<u8, A>,
+) -> Option<InputEnd>
     requires { vec_len input.old ≤ MOST_BYTES }
     ensures consumed { (more : List ℕ) × (input.new.items ≡ input.old.items ++ more)
         × Consumes (R.remaining reader.old.inner) (R.remaining reader.new.inner) more }

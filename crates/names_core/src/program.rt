@@ -10,7 +10,7 @@ use crate::line::first_line;
 use crate::reply::{Answer, Names, reply};
 use crate::watch::Watch;
 use litemap::store::{StoreConstEmpty, StoreMut};
-use std::alloc::Global;
+use std::alloc::{Allocator, Global};
 use std::io::{Read, Write};
 
 /// Reads all input, at most one byte more than 1,048,576, then does its lines in order, writes the reply to each as the line is
@@ -24,24 +24,24 @@ use std::io::{Read, Write};
 pub fn run<R: Read, W: Write>(alloc: Global, reader: &mut Watch<R>, writer: &mut Watch<W>) -> u8
     ensures run { IsRun R.remaining W.contents reader.old reader.new writer.old writer.new result }
 {
-    run_with::<Vec<(String, String)>, R, W>(alloc, reader, writer)
+    run_with::<Vec<(String, String)>, Global, R, W>(alloc, reader, writer)
 }
 
-/// Does what `run` does, with the names kept in a store of another type.
-pub fn run_with<S, R: Read, W: Write>(
-    alloc: Global,
+/// Does what `run` does, with the names kept in a store of another type, and all memory taken from its allocator.
+pub fn run_with<S, A: Allocator + Copy, R: Read, W: Write>(
+    alloc: A,
     reader: &mut Watch<R>,
     writer: &mut Watch<W>,
 ) -> u8
 where
-    S: StoreConstEmpty<String, String> + StoreMut<String, String> + Drop,
+    S: StoreConstEmpty<String<A>, String<A>, Alloc = A> + StoreMut<String<A>, String<A>> + Drop,
     ensures run { IsRun R.remaining W.contents reader.old reader.new writer.old writer.new result }
 {
     let mut input = Vec::new(alloc);
     let ending = read_input(reader, &mut input);
     reader.settle_before(writer);
     match ending {
-        InputEnd::Whole => answer_lines::<S, W>(alloc, &input, writer),
+        InputEnd::Whole => answer_lines::<S, A, W>(alloc, &input, writer),
         InputEnd::TooLong => finish(writer, b"input too long\n", 2),
         InputEnd::NoMemory => finish(writer, b"no memory\n", 3),
         InputEnd::Fault => finish(writer, b"read fault\n", 4),
@@ -50,16 +50,20 @@ where
 
 // Runs the lines in order and writes their replies. A bad line, or memory that runs out, is reported in one more line. Returns
 // the status.
-fn answer_lines<S, W: Write>(alloc: Global, input: &[u8], writer: &mut Watch<W>) -> u8
+fn answer_lines<S, A: Allocator + Copy, W: Write>(
+    alloc: A,
+    input: &[u8],
+    writer: &mut Watch<W>,
+) -> u8
 where
-    S: StoreConstEmpty<String, String> + StoreMut<String, String> + Drop,
+    S: StoreConstEmpty<String<A>, String<A>, Alloc = A> + StoreMut<String<A>, String<A>> + Drop,
     requires { length input.now ≤ most_input }
     ensures told { (out : List ℕ) × (told : ℕ) × Told input.now out told
         × EndsRun W.contents writer.old writer.new out told result }
     ensures failed { writer.old.failed ≡ false → (result ≡ 4) ↔ (writer.new.failed ≡ true) }
     ensures nothing_after { NoCallAfterFault writer.old writer.new }
 {
-    let mut names = Names::<S>::new(alloc);
+    let mut names = Names::<S, A>::new(alloc);
     let mut rest = Some(input);
     let mut done = 0;
     while let Some(bytes) = rest {

@@ -10,26 +10,26 @@ use crate::line::{Command, parse};
 use json::Writer;
 use litemap::LiteMap;
 use litemap::store::{Store, StoreMut};
-use std::alloc::{AllocError, Global};
+use std::alloc::{AllocError, Allocator, Global};
 
 /// The names and their values, kept in a store.
-pub type Names<S> = LiteMap<String, String, S>;
+pub type Names<S, A = Global> = LiteMap<String<A>, String<A>, S>;
 
 /// The reply to a line.
-pub enum Answer {
+pub enum Answer<A: Allocator = Global> {
     /// The line is done, and this is the reply.
-    Done(String),
+    Done(String<A>),
     /// The line is bad, and this says so.
-    Bad(String),
+    Bad(String<A>),
 }
 
 /// Runs the line of this number, and returns the reply.
-pub fn reply<S: StoreMut<String, String>>(
-    alloc: Global,
-    names: &mut Names<S>,
+pub fn reply<A: Allocator + Copy, S: StoreMut<String<A>, String<A>>>(
+    alloc: A,
+    names: &mut Names<S, A>,
     number: usize,
     line: &[u8],
-) -> Result<Answer, AllocError>
+) -> Result<Answer<A>, AllocError>
     ensures { IfOk result (IsAnswer (names_of names.old) number line.now (names_of names.new)) }
 {
     if line.is_empty() {
@@ -49,11 +49,11 @@ pub fn reply<S: StoreMut<String, String>>(
 
 // Runs a command, and returns the text of the reply.
 #[tactic(auto, using(crate::proofs::Bytes::in_bytes))]
-fn obey<S: StoreMut<String, String>>(
-    alloc: Global,
-    names: &mut Names<S>,
+fn obey<A: Allocator + Copy, S: StoreMut<String<A>, String<A>>>(
+    alloc: A,
+    names: &mut Names<S, A>,
     command: Command<'_>,
-) -> Result<String, AllocError>
+) -> Result<String<A>, AllocError>
     ensures { IfOk result
         (λ text. Replies (names_of names.old) command.entry (string_bytes text) (names_of names.new)) }
 {
@@ -69,14 +69,14 @@ fn obey<S: StoreMut<String, String>>(
 }
 
 // Inserts a value at a key, and returns the text of the reply.
-fn put<S: StoreMut<String, String>>(
-    alloc: Global,
-    names: &mut Names<S>,
+fn put<A: Allocator + Copy, S: StoreMut<String<A>, String<A>>>(
+    alloc: A,
+    names: &mut Names<S, A>,
     key: &str,
     value: &str,
-) -> Result<String, AllocError>
+) -> Result<String<A>, AllocError>
     ensures { IfOk result
-        (λ text. (string_bytes text ≡ old_text (value_at bytes_cmp (names_of names.old).pairs key.now))
+        (λ text. (string_bytes text ≡ old_text (value_at bytes_cmp (names_of names.old).entries key.now))
         × Puts (names_of names.old) key.now value.now (names_of names.new)) }
 {
     let key = String::from_str(alloc, key)?;
@@ -87,7 +87,7 @@ fn put<S: StoreMut<String, String>>(
     }
 }
 
-fn old_text(alloc: Global, old: Option<String>) -> Result<String, AllocError>
+fn old_text<A: Allocator + Copy>(alloc: A, old: Option<String<A>>) -> Result<String<A>, AllocError>
     ensures { IfOk result (λ text. string_bytes text ≡ old_text (option_map string_bytes old)) }
 {
     match old {
@@ -96,7 +96,10 @@ fn old_text(alloc: Global, old: Option<String>) -> Result<String, AllocError>
     }
 }
 
-fn value_text(alloc: Global, value: Option<&String>) -> Result<String, AllocError>
+fn value_text<A: Allocator + Copy>(
+    alloc: A,
+    value: Option<&String<A>>,
+) -> Result<String<A>, AllocError>
     ensures { IfOk result
         (λ text. string_bytes text ≡ value_text (option_map string_bytes (option_copied value.entry))) }
 {
@@ -106,8 +109,11 @@ fn value_text(alloc: Global, value: Option<&String>) -> Result<String, AllocErro
     }
 }
 
-fn all<S: Store<String, String>>(alloc: Global, names: &Names<S>) -> Result<String, AllocError>
-    ensures { IfOk result (λ text. string_bytes text ≡ flat_map pair_text (names_of names.now).pairs) }
+fn all<A: Allocator + Copy, S: Store<String<A>, String<A>>>(
+    alloc: A,
+    names: &Names<S, A>,
+) -> Result<String<A>, AllocError>
+    ensures { IfOk result (λ text. string_bytes text ≡ flat_map pair_text (names_of names.now).entries) }
 {
     let mut text = String::new(alloc);
     for index in 0..names.len() {
@@ -118,8 +124,11 @@ fn all<S: Store<String, String>>(alloc: Global, names: &Names<S>) -> Result<Stri
 }
 
 // The map as JSON, on one line, written pair by pair: by the tree that `to_json` makes it would take forty times as long.
-fn json<S: Store<String, String>>(alloc: Global, names: &Names<S>) -> Result<String, AllocError>
-    ensures { IfOk result (λ text. string_bytes text ≡ json_answer (names_of names.now).pairs) }
+fn json<A: Allocator + Copy, S: Store<String<A>, String<A>>>(
+    alloc: A,
+    names: &Names<S, A>,
+) -> Result<String<A>, AllocError>
+    ensures { IfOk result (λ text. string_bytes text ≡ json_answer (names_of names.now).entries) }
 {
     if names.is_empty() {
         return String::from_str(alloc, "[]\n");
@@ -137,7 +146,7 @@ fn json<S: Store<String, String>>(alloc: Global, names: &Names<S>) -> Result<Str
     Ok(text)
 }
 
-fn written(writer: Writer) -> String
+fn written<A: Allocator>(writer: Writer<A>) -> String<A>
     requires { writer.before ≡ [] }
     ensures { string_bytes result ≡ print writer.tokens }
 {

@@ -24,7 +24,7 @@ const HALVES: [(&[(u32, u8)], u32, usize, &[u8]); 10] = [
 ];
 
 // Whether a closure that compares with half of a key finds one of these keys, or where it would go, and takes one of them out.
-fn finds_one<S: StoreMut<u32, u8> + StoreFromIterable<u32, u8> + Drop>(
+fn finds_one<S: StoreMut<u32, u8, Alloc = Global> + StoreFromIterable<u32, u8> + Drop>(
     alloc: Global,
     pairs: &[(u32, u8)],
     half: u32,

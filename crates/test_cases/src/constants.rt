@@ -24,7 +24,7 @@ const BYTES: &[(&[u8], u32)] = &[(b"a", 1), (b"aa", 2)];
 // The map over a slice whose keys ascend.
 fn table<K: Ord, V>(pairs: &[(K, V)]) -> Table<'_, K, V>
     requires { Rising K.cmp pairs.now }
-    ensures { result.pairs ≡ pairs.now }
+    ensures { result.entries ≡ pairs.now }
 {
     LiteMap::from_sorted_store_unchecked(SliceStore::new(pairs))
 }

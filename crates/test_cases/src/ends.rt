@@ -14,7 +14,7 @@ use std::mem;
 const MOST: usize = usize::MAX / 2;
 
 // Whether a map of pairs that take no memory fails to reserve for more pairs than a vector holds, and keeps its pair.
-fn is_refused<S: StoreMut<(), ()> + Drop>(alloc: Global) -> Outcome {
+fn is_refused<S: StoreMut<(), (), Alloc = Global> + Drop>(alloc: Global) -> Outcome {
     let mut is_right = LiteMap::<(), (), S>::with_capacity(alloc, usize::MAX).is_err();
     let mut map: LiteMap<(), (), S> = LiteMap::with_capacity(alloc, 1)?;
     map.insert((), ())?;

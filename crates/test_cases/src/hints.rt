@@ -46,7 +46,7 @@ fn has_last<S: Store<u32, u32>>(map: &LiteMap<u32, u32, S>, number: u32) -> bool
 }
 
 // Whether a map that is made of so many pairs has the last ones, and one of a greater key that is extended by them too.
-fn keeps_last<S: StoreBulkMut<u32, u32> + StoreFromIterable<u32, u32>>(
+fn keeps_last<S: StoreBulkMut<u32, u32, Alloc = Global> + StoreFromIterable<u32, u32>>(
     alloc: Global,
     pairs: Halves,
 ) -> Outcome {

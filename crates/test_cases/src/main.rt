@@ -26,6 +26,7 @@ mod limits;
 mod lines;
 mod printing;
 mod queries;
+mod refusals;
 mod runs;
 mod sets;
 mod small;
@@ -63,7 +64,7 @@ fn main(rt: HostRuntime) -> ExitCode {
     }
 }
 
-fn cases(alloc: Global) -> [(&'static str, Outcome); 56] {
+fn cases(alloc: Global) -> [(&'static str, Outcome); 57] {
     outcomes! { alloc;
         closures::one_of_the_keys_called_equal_is_found,
         closures::a_closure_compares_with_another_type,
@@ -102,6 +103,7 @@ fn cases(alloc: Global) -> [(&'static str, Outcome); 56] {
         queries::keys_are_asked_by_texts,
         queries::keys_are_asked_by_slices,
         queries::names_are_asked_in_their_bytes,
+        refusals::each_call_is_refused_over_some_heap,
         sets::a_set_has_each_key_once,
         sets::strings_are_members,
         sets::keys_are_collected,

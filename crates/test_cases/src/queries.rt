@@ -102,7 +102,11 @@ pub(crate) fn keys_are_asked_by_texts(alloc: Global) -> Outcome {
         are_asked(alloc, |text| text.to_string(alloc), &identity),
         are_asked(alloc, |text| Ok(text), &identity),
         are_asked(alloc, |text| BoxedStr::from_str(alloc, text), &identity),
-        are_asked(alloc, |text| Ok(CowStr::Borrowed(text)), &identity),
+        are_asked(
+            alloc,
+            |text| Ok::<CowStr, AllocError>(CowStr::Borrowed(text)),
+            &identity,
+        ),
         are_asked(alloc, |text| RcStr::from_str(alloc, text), &identity),
         are_asked(alloc, |text| ArcStr::from_str(alloc, text), &identity),
     ])

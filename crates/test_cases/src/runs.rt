@@ -44,7 +44,7 @@ pub fn run_kept<R: Read, W: Write>(
     match kept {
         Kept::InOneVector => run(alloc, reader, writer),
         Kept::InTwoColumns => {
-            run_with::<ColumnStore<String, String>, R, W>(alloc, reader, writer)
+            run_with::<ColumnStore<String, String>, _, R, W>(alloc, reader, writer)
         }
     }
 }

@@ -44,7 +44,7 @@ pub struct Bench<S: Store<Key, Value>> {
     store: S,
 }
 
-impl<S: StoreConstEmpty<Key, Value>> Bench<S> {
+impl<S: StoreConstEmpty<Key, Value, Alloc = Global>> Bench<S> {
     /// Both empty.
     pub fn new(alloc: Global) -> Self {
         Bench {

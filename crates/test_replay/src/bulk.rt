@@ -12,7 +12,7 @@ use litemap::LiteMap;
 use litemap::store::{Count, NoRoom, StoreAlloc, StoreBulkMut, StoreMut};
 use litemap_columns::ColumnStore;
 use litemap_read::{PairSource, ReadFault, extend_from_source, read_pairs, read_results};
-use std::alloc::AllocError;
+use std::alloc::{AllocError, Global};
 use std::cell::Cell;
 use std::vec::IntoIter;
 
@@ -57,7 +57,7 @@ fn gathered<S: Tested>(call: &Call<'_>, pairs: Vec<Pair>) -> Result<Map<S>, Allo
 }
 
 // Replaces a map by what was made, or returns why it wasn't.
-fn replace<S: StoreBulkMut<Key, Value>, E>(
+fn replace<S: StoreBulkMut<Key, Value, Alloc = Global>, E>(
     map: &mut Map<S>,
     made: Result<Map<S>, E>,
 ) -> Result<(), E> {
@@ -66,7 +66,7 @@ fn replace<S: StoreBulkMut<Key, Value>, E>(
 }
 
 // A map is made of a vector, or extended by one, whose pairs come back if memory runs out.
-fn take_vec<S: StoreBulkMut<Key, Value>>(
+fn take_vec<S: StoreBulkMut<Key, Value, Alloc = Global>>(
     map: &mut Map<S>,
     call: &Call<'_>,
     to: &mut Answer,
@@ -86,7 +86,7 @@ fn take_vec<S: StoreBulkMut<Key, Value>>(
     Some(())
 }
 
-fn put_vec<S: StoreBulkMut<Key, Value>>(
+fn put_vec<S: StoreBulkMut<Key, Value, Alloc = Global>>(
     map: &mut Map<S>,
     call: &Call<'_>,
     pairs: Vec<Pair>,
@@ -101,7 +101,7 @@ fn put_vec<S: StoreBulkMut<Key, Value>>(
 }
 
 // `insert` of each of the pairs, until one has no room. It tells how many were new.
-fn insert_each<S: StoreMut<Key, Value>>(
+fn insert_each<S: StoreMut<Key, Value, Alloc = Global>>(
     map: &mut Map<S>,
     call: &Call<'_>,
     to: &mut Answer,
@@ -116,7 +116,7 @@ fn insert_each<S: StoreMut<Key, Value>>(
     Some(())
 }
 
-fn insert_all<S: StoreMut<Key, Value>>(
+fn insert_all<S: StoreMut<Key, Value, Alloc = Global>>(
     map: &mut Map<S>,
     pairs: Vec<Pair>,
 ) -> Result<u64, NoRoom<Pair>> {
@@ -138,7 +138,11 @@ fn is_counted(call: &Call<'_>, name: &str) -> Option<bool> {
     }
 }
 
-fn extend<S: StoreBulkMut<Key, Value>>(map: &mut Map<S>, call: &Call<'_>, to: &mut Answer) -> Made {
+fn extend<S: StoreBulkMut<Key, Value, Alloc = Global>>(
+    map: &mut Map<S>,
+    call: &Call<'_>,
+    to: &mut Answer,
+) -> Made {
     let is_counted = is_counted(call, "extend")?;
     let pairs = call.given()?;
     to.room(if is_counted {
@@ -150,7 +154,7 @@ fn extend<S: StoreBulkMut<Key, Value>>(map: &mut Map<S>, call: &Call<'_>, to: &m
 }
 
 // `extend` of the trait, which is given no allocator.
-fn extend_by_trait<S: StoreBulkMut<Key, Value> + StoreAlloc<Key, Value>>(
+fn extend_by_trait<S: StoreBulkMut<Key, Value, Alloc = Global> + StoreAlloc<Key, Value>>(
     map: &mut Map<S>,
     call: &Call<'_>,
     to: &mut Answer,
@@ -163,7 +167,7 @@ fn extend_by_trait<S: StoreBulkMut<Key, Value> + StoreAlloc<Key, Value>>(
 }
 
 /// A map of the given pairs, with the given room. The call begins after it is made.
-pub fn other<S: StoreBulkMut<Key, Value>>(call: &Call<'_>) -> Option<Map<S>> {
+pub fn other<S: StoreBulkMut<Key, Value, Alloc = Global>>(call: &Call<'_>) -> Option<Map<S>> {
     let mut map: Map<S> = LiteMap::from_vec(call.alloc, call.pairs(0)?).ok()?;
     map.reserve(call.room()).ok()?;
     call.begin();
@@ -191,14 +195,17 @@ fn merge<S: Tested>(map: &mut Map<S>, call: &Call<'_>, to: &mut Answer) -> Made 
 }
 
 // A clone of the map. The call begins after it is made.
-fn clone<S: StoreBulkMut<Key, Value>>(map: &Map<S>, call: &Call<'_>) -> Option<Map<S>> {
+fn clone<S: StoreBulkMut<Key, Value, Alloc = Global>>(
+    map: &Map<S>,
+    call: &Call<'_>,
+) -> Option<Map<S>> {
     call.end();
     let clone = map.try_clone(call.alloc).ok()?;
     call.begin();
     Some(clone)
 }
 
-fn show_merged<'a, S: StoreBulkMut<Key, Value>>(
+fn show_merged<'a, S: StoreBulkMut<Key, Value, Alloc = Global>>(
     merged: Result<Option<Map<S>>, NoRoom<Map<S>>>,
     to: &mut Answer,
 ) {
@@ -232,7 +239,11 @@ fn combine<S: Tested>(map: &mut Map<S>, call: &Call<'_>, to: &mut Answer) -> Mad
     Some(())
 }
 
-fn split<S: StoreBulkMut<Key, Value>>(map: &mut Map<S>, call: &Call<'_>, to: &mut Answer) -> Made {
+fn split<S: StoreBulkMut<Key, Value, Alloc = Global>>(
+    map: &mut Map<S>,
+    call: &Call<'_>,
+    to: &mut Answer,
+) -> Made {
     if call.name != "split_off" {
         return None;
     }
@@ -253,7 +264,7 @@ fn extract<S: Tested>(map: &mut Map<S>, call: &Call<'_>, to: &mut Answer) -> Mad
 }
 
 // The calls that go through another map, over two columns, beside this one.
-fn go_beside<S: StoreBulkMut<Key, Value>>(
+fn go_beside<S: StoreBulkMut<Key, Value, Alloc = Global>>(
     map: &mut Map<S>,
     call: &Call<'_>,
     to: &mut Answer,
@@ -274,7 +285,11 @@ fn go_beside<S: StoreBulkMut<Key, Value>>(
 
 // What a source gives replaces the map, or is put into it. The first word is how many pairs the source promises, or `-`; the
 // second one is after how many pairs it has an error, or `-`.
-fn read<S: StoreBulkMut<Key, Value>>(map: &mut Map<S>, call: &Call<'_>, to: &mut Answer) -> Made {
+fn read<S: StoreBulkMut<Key, Value, Alloc = Global>>(
+    map: &mut Map<S>,
+    call: &Call<'_>,
+    to: &mut Answer,
+) -> Made {
     if call.name != "read_pairs" && call.name != "extend_from_source" {
         return None;
     }
@@ -297,7 +312,7 @@ fn read<S: StoreBulkMut<Key, Value>>(map: &mut Map<S>, call: &Call<'_>, to: &mut
 }
 
 // What an iterator of results gives replaces the map. The first word is the index of the error, or `-`.
-fn read_each<S: StoreBulkMut<Key, Value>>(
+fn read_each<S: StoreBulkMut<Key, Value, Alloc = Global>>(
     map: &mut Map<S>,
     call: &Call<'_>,
     to: &mut Answer,

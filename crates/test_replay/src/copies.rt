@@ -5,12 +5,12 @@ use crate::call::{Call, Made, Map};
 use crate::counted::{Key, Order, Value, with_rank};
 use litemap::VecMap;
 use litemap::store::{Store, StoreAlloc, StoreBulkMut, StoreMut};
-use std::alloc::AllocError;
+use std::alloc::{AllocError, Global};
 use std::cmp::Ordering;
 use std::hash::{FoldHasher, Hash, Hasher};
 
 /// Makes a call that copies, if the name is one. The last word tells how many keys and values were cloned.
-pub fn copy<S: StoreMut<Key, Value> + StoreAlloc<Key, Value> + Drop>(
+pub fn copy<S: StoreMut<Key, Value, Alloc = Global> + StoreAlloc<Key, Value> + Drop>(
     map: &Map<S>,
     call: &Call<'_>,
     to: &mut Answer,
@@ -65,7 +65,7 @@ fn keyed<S: Store<Key, Value>>(
 }
 
 /// Compares a map with one of the given pairs, if the name is such a call. `hash`: whether both are hashed alike.
-pub fn compare<S: StoreBulkMut<Key, Value>>(
+pub fn compare<S: StoreBulkMut<Key, Value, Alloc = Global>>(
     map: &Map<S>,
     call: &Call<'_>,
     to: &mut Answer,
@@ -77,7 +77,7 @@ pub fn compare<S: StoreBulkMut<Key, Value>>(
     Some(())
 }
 
-fn show_compared<S: StoreBulkMut<Key, Value>>(
+fn show_compared<S: StoreBulkMut<Key, Value, Alloc = Global>>(
     map: &Map<S>,
     other: &Map<S>,
     name: &str,

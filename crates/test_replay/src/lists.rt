@@ -6,6 +6,7 @@ use litemap::LiteMap;
 use litemap::store::StoreBulkMut;
 use litemap_columns::ColumnStore;
 use litemap_read::laws::{self, run_calls};
+use std::alloc::Global;
 
 type Listed = laws::Call<Key, u64>;
 
@@ -19,7 +20,7 @@ pub fn run(call: &Call<'_>, to: &mut Answer) -> Made {
 }
 
 // What the calls return and the map, or the list that came back.
-fn run_list<S: StoreBulkMut<Key, u64>>(call: &Call<'_>, to: &mut Answer) -> Made {
+fn run_list<S: StoreBulkMut<Key, u64, Alloc = Global>>(call: &Call<'_>, to: &mut Answer) -> Made {
     call.end();
     let mut list = Vec::new(call.alloc);
     for word in call.words.iter() {

@@ -4,10 +4,11 @@ use crate::call::{Call, Made};
 use crate::counted::Order;
 use litemap::LiteMap;
 use litemap::store::StoreBulkMut;
+use std::alloc::Global;
 
 /// Inserts so many keys into an empty map, or extends a full one by so many, if the name is one of these: over a store of small
 /// pairs, and over one of a set.
-pub fn grow<S: StoreBulkMut<u32, u32>, T: StoreBulkMut<u32, ()>>(
+pub fn grow<S: StoreBulkMut<u32, u32, Alloc = Global>, T: StoreBulkMut<u32, (), Alloc = Global>>(
     call: &Call<'_>,
     to: &mut Answer,
 ) -> Made {
@@ -65,7 +66,10 @@ impl Small for () {
 }
 
 // The keys are what the multiples of the second number leave by a prime: with one less than that, each comes in front.
-fn grow_over<V: Small + Drop, S: StoreBulkMut<u32, V>>(call: &Call<'_>, to: &mut Answer) -> Made {
+fn grow_over<V: Small + Drop, S: StoreBulkMut<u32, V, Alloc = Global>>(
+    call: &Call<'_>,
+    to: &mut Answer,
+) -> Made {
     let (count, step) = (call.number(0)?, call.number(1)?);
     let mut map: LiteMap<u32, V, S> = LiteMap::with_capacity(call.alloc, 0).ok()?;
     call.begin();
@@ -83,7 +87,9 @@ fn grow_over<V: Small + Drop, S: StoreBulkMut<u32, V>>(call: &Call<'_>, to: &mut
     Some(())
 }
 
-fn pairs_of<V: Small + Drop, S: StoreBulkMut<u32, V>>(map: &LiteMap<u32, V, S>) -> Pairs {
+fn pairs_of<V: Small + Drop, S: StoreBulkMut<u32, V, Alloc = Global>>(
+    map: &LiteMap<u32, V, S>,
+) -> Pairs {
     let mut pairs = Pairs::default();
     for index in 0..map.len() {
         if let Some((key, value)) = map.get_indexed(index) {
@@ -95,7 +101,10 @@ fn pairs_of<V: Small + Drop, S: StoreBulkMut<u32, V>>(map: &LiteMap<u32, V, S>) 
 
 // Extends a map of so many multiples of two, which has no more room, by the vector of as many other keys as the second number
 // says, which are multiples of the third one as in `grow_over`.
-fn extend_over<V: Small + Drop, S: StoreBulkMut<u32, V>>(call: &Call<'_>, to: &mut Answer) -> Made {
+fn extend_over<V: Small + Drop, S: StoreBulkMut<u32, V, Alloc = Global>>(
+    call: &Call<'_>,
+    to: &mut Answer,
+) -> Made {
     call.end();
     let (len, count, step) = (call.number(0)?, call.number(1)?, call.number(2)?);
     let old = multiples(call, len, 2)?;

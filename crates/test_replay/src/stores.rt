@@ -6,6 +6,7 @@ use crate::counted::{Key, Value};
 use crate::tested::Tested;
 use litemap::LiteMap;
 use litemap::store::{Count, NoRoom, StoreBulkMut, StoreMut};
+use std::alloc::Global;
 use std::fmt::Debug;
 
 /// Makes a call of a store, if the name is one.
@@ -20,7 +21,11 @@ pub fn call<S: Tested>(store: &mut S, call: &Call<'_>, to: &mut Answer) -> bool 
         || join(store, call, to).is_some()
 }
 
-fn whole<S: StoreMut<Key, Value> + Drop>(store: &mut S, call: &Call<'_>, to: &mut Answer) -> Made {
+fn whole<S: StoreMut<Key, Value, Alloc = Global> + Drop>(
+    store: &mut S,
+    call: &Call<'_>,
+    to: &mut Answer,
+) -> Made {
     match call.name {
         "lm_len" => to.show(store.lm_len()),
         "lm_is_empty" => to.show(store.lm_is_empty()),
@@ -46,7 +51,11 @@ pub fn text<S: Debug>(store: &S, call: &Call<'_>, to: &mut Answer) -> Made {
     Some(())
 }
 
-fn by_number<S: StoreBulkMut<Key, Value>>(store: &mut S, call: &Call<'_>, to: &mut Answer) -> Made {
+fn by_number<S: StoreBulkMut<Key, Value, Alloc = Global>>(
+    store: &mut S,
+    call: &Call<'_>,
+    to: &mut Answer,
+) -> Made {
     let (key, number, index) = (call.key(0)?, call.number(0)?, call.size(0)?);
     match call.name {
         "lm_get" => to.pair_or_none(store.lm_get(index)),
@@ -66,7 +75,11 @@ fn by_number<S: StoreBulkMut<Key, Value>>(store: &mut S, call: &Call<'_>, to: &m
 }
 
 // A call with a pair, or with an index and a number.
-fn put<S: StoreMut<Key, Value>>(store: &mut S, call: &Call<'_>, to: &mut Answer) -> Made {
+fn put<S: StoreMut<Key, Value, Alloc = Global>>(
+    store: &mut S,
+    call: &Call<'_>,
+    to: &mut Answer,
+) -> Made {
     if call.name == "lm_push" {
         let (key, value) = call.pair(0)?;
         show_room(store.lm_push(key, value), to);
@@ -99,7 +112,11 @@ fn show_room(outcome: Result<(), NoRoom<Pair>>, to: &mut Answer) {
 }
 
 // A call with an index and a pair.
-fn put_at<S: StoreMut<Key, Value>>(store: &mut S, call: &Call<'_>, to: &mut Answer) -> Made {
+fn put_at<S: StoreMut<Key, Value, Alloc = Global>>(
+    store: &mut S,
+    call: &Call<'_>,
+    to: &mut Answer,
+) -> Made {
     let (index, len) = (call.size(0)?, store.lm_len());
     let (key, value) = call.pair(1)?;
     match call.name {
@@ -125,7 +142,11 @@ fn renew<S: Tested>(store: &mut S, call: &Call<'_>, to: &mut Answer) -> Made {
 }
 
 // A call with many pairs of a store that is sorted.
-fn extend<S: StoreBulkMut<Key, Value>>(store: &mut S, call: &Call<'_>, to: &mut Answer) -> Made {
+fn extend<S: StoreBulkMut<Key, Value, Alloc = Global>>(
+    store: &mut S,
+    call: &Call<'_>,
+    to: &mut Answer,
+) -> Made {
     if call.name != "lm_extend" || !LiteMap::is_sorted_store(&*store) {
         return None;
     }
@@ -135,7 +156,11 @@ fn extend<S: StoreBulkMut<Key, Value>>(store: &mut S, call: &Call<'_>, to: &mut 
 }
 
 // A call that takes its pairs out of a vector. What the vector has after it is written after its result.
-fn take_vec<S: StoreBulkMut<Key, Value>>(store: &mut S, call: &Call<'_>, to: &mut Answer) -> Made {
+fn take_vec<S: StoreBulkMut<Key, Value, Alloc = Global>>(
+    store: &mut S,
+    call: &Call<'_>,
+    to: &mut Answer,
+) -> Made {
     let is_extended = call.name == "lm_extend_from_vec" && LiteMap::is_sorted_store(&*store);
     if call.name != "lm_sort_from_vec" && !is_extended {
         return None;

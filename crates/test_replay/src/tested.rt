@@ -7,10 +7,10 @@ use litemap::store::{
     StoreAlloc, StoreBulkMut, StoreConstEmpty, StoreFromIterable, StoreFromIterator,
     StoreIntoIterator,
 };
-use std::alloc::AllocError;
+use std::alloc::{AllocError, Global};
 
 /// A store whose calls, and those of a map over it, are made.
-pub trait Tested: StoreConstEmpty<Key, Value>
+pub trait Tested: StoreConstEmpty<Key, Value, Alloc = Global>
     + StoreAlloc<Key, Value>
     + StoreBulkMut<Key, Value>
     + StoreFromIterable<Key, Value>

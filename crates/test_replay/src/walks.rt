@@ -4,6 +4,7 @@ use crate::call::{Call, Made, Map};
 use crate::counted::{Key, Order, Value};
 use litemap::LiteMap;
 use litemap::store::{PairIntoIter, StoreConstEmpty, StoreIntoIterator, StoreIterable};
+use std::alloc::Global;
 use std::mem;
 
 // What a walk met, and whether each of its hints told exactly how many items were left.
@@ -129,7 +130,7 @@ pub fn lent<'a, S: StoreIterable<'a, Key, Value>>(
 }
 
 /// `into_iter`, so many steps of it; the rest is dropped.
-pub fn taken<S: StoreConstEmpty<Key, Value> + StoreIntoIterator<Key, Value>>(
+pub fn taken<S: StoreConstEmpty<Key, Value, Alloc = Global> + StoreIntoIterator<Key, Value>>(
     map: &mut Map<S>,
     call: &Call<'_>,
     to: &mut Answer,

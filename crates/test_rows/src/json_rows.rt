@@ -1,5 +1,7 @@
 //! The output of a line.
 ghost use Rattle.std.specs.Mem.{FitsInMemory};
+ghost use Rattle.std.specs.contracts.alloc.Global as global;
+ghost use Rattle.std.specs.contracts.impls.GlobalAllocator.TheImpl.{ghosts};
 ghost use Rattle.litemap_short.specs.contracts.short_store.ShortStore.{the_row};
 
 use crate::falling::Falling;
@@ -58,7 +60,7 @@ pub fn answer(alloc: Global, line: &str) -> Output {
 // The map that a text is read as, written as JSON: over a vector, over two columns and over a short store. That such a store fits
 // in memory is proved where its types are known.
 fn written<K: JsonKey + Drop, V: JsonItem + Drop>(alloc: Global, text: &str) -> Output
-    requires { FitsInMemory (the_row K.row V.row) }
+    requires { FitsInMemory (the_row K.row V.row global.the_row ghosts) }
 {
     let value = or_word!(alloc, "no JSON", Value::from_str(alloc, text));
     let vector = written_over::<K, V, Vec<(K, V)>>(alloc, &value)?;
@@ -68,7 +70,7 @@ fn written<K: JsonKey + Drop, V: JsonItem + Drop>(alloc: Global, text: &str) -> 
 }
 
 // The same over one store.
-fn written_over<K: JsonKey + Drop, V: JsonItem + Drop, S: StoreBulkMut<K, V>>(
+fn written_over<K: JsonKey + Drop, V: JsonItem + Drop, S: StoreBulkMut<K, V, Alloc = Global>>(
     alloc: Global,
     value: &Value,
 ) -> Output {

@@ -1,5 +1,7 @@
 //! A text that is read and written again.
 ghost use Rattle.std.specs.Mem.{FitsInMemory};
+ghost use Rattle.std.specs.contracts.alloc.Global as global;
+ghost use Rattle.std.specs.contracts.impls.GlobalAllocator.TheImpl.{ghosts};
 ghost use Rattle.litemap_short.specs.contracts.short_store.ShortStore.{the_row};
 
 use crate::Output;
@@ -41,7 +43,7 @@ pub fn map_again<'t, K, V>(alloc: Global, text: &'t str) -> Output
 where
     K: Deserialize<'t> + Serialize + Ord,
     V: Deserialize<'t> + Serialize,
-    requires { FitsInMemory (the_row K.row V.row) }
+    requires { FitsInMemory (the_row K.row V.row global.the_row ghosts) }
 {
     let vector = again_over::<K, V, Vec<(K, V)>>(alloc, text)?;
     let columns = again_over::<K, V, ColumnStore<K, V>>(alloc, text)?;
@@ -54,7 +56,7 @@ fn again_over<'t, K, V, S>(alloc: Global, text: &'t str) -> Output
 where
     K: Deserialize<'t> + Serialize + Ord,
     V: Deserialize<'t> + Serialize,
-    S: StoreBulkMut<K, V>,
+    S: StoreBulkMut<K, V, Alloc = Global>,
 {
     again::<SerdeMap<K, V, S>>(alloc, text)
 }

@@ -68,7 +68,10 @@ fn make<K, V, S>(call: &Call<'_>) -> Told
 where
     K: Made,
     V: Made,
-    S: StoreBulkMut<K, V> + StoreFromIterable<K, V> + StoreIntoIterator<K, V> + KeepsMemory<K, V>,
+    S: StoreBulkMut<K, V, Alloc = Global>
+        + StoreFromIterable<K, V>
+        + StoreIntoIterator<K, V>
+        + KeepsMemory<K, V>,
 {
     let mut map: LiteMap<K, V, S> = LiteMap::with_capacity(call.alloc, call.len as usize)?;
     calls::fill(call, &mut map)?;
@@ -83,7 +86,10 @@ fn one<K, V, S>(call: &Call<'_>, map: &mut LiteMap<K, V, S>, given: Given<K, V>)
 where
     K: Made,
     V: Made,
-    S: StoreBulkMut<K, V> + StoreFromIterable<K, V> + StoreIntoIterator<K, V> + KeepsMemory<K, V>,
+    S: StoreBulkMut<K, V, Alloc = Global>
+        + StoreFromIterable<K, V>
+        + StoreIntoIterator<K, V>
+        + KeepsMemory<K, V>,
 {
     match call.name {
         "extend_from_litemap" | "extend_with" => calls::merge(call, map, given),

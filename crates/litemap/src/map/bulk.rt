@@ -11,7 +11,7 @@ ghost use Rattle.litemap.specs.Updates.{Overlays};
 
 use crate::LiteMap;
 use litemap_store::store::{Count, NoRoom, StoreBulkMut, StoreFromIterable};
-use std::alloc::{AllocError, Global};
+use std::alloc::AllocError;
 
 impl<K: Ord + Drop, V: Drop, S: StoreFromIterable<K, V>> LiteMap<K, V, S> {
     /// Returns a map of the pairs that an iterator yields, or an error if memory runs out. The last pair of each key stays, its
@@ -25,12 +25,12 @@ impl<K: Ord + Drop, V: Drop, S: StoreFromIterable<K, V>> LiteMap<K, V, S> {
     /// Ok(days.as_slice() == [(1, "Mon"), (2, "Tuesday")].as_slice())
     /// ```
     pub fn from_iter<I: IntoIterator<Item = (K, V)>>(
-        alloc: Global,
+        alloc: S::Alloc,
         iter: I,
     ) -> Result<Self, AllocError>
         requires { IsFiniteIterable I.into_iter_gives I.IntoIter.can_next I.IntoIter.remaining iter }
         ensures made { IfOk result
-            (λ m. IsGathered K.cmp (Gives I.into_iter_gives I.IntoIter.next_gives iter) [] m.pairs) }
+            (λ m. IsGathered K.cmp (Gives I.into_iter_gives I.IntoIter.next_gives iter) [] m.entries) }
         ensures refused_some { S.fails_for_pairs_only
             → OnErr result (GivesSome I.into_iter_gives I.IntoIter.next_gives iter) }
     {
@@ -40,13 +40,15 @@ impl<K: Ord + Drop, V: Drop, S: StoreFromIterable<K, V>> LiteMap<K, V, S> {
     /// `from_iter`, counting its comparisons but for those that sort and drop equal keys: at most one for each pair if they
     /// ascend, also if it fails (own).
     pub fn from_iter_counted<I: IntoIterator<Item = (K, V)>>(
-        alloc: Global,
+        alloc: S::Alloc,
         iter: I,
         count: &mut Count,
     ) -> Result<Self, AllocError>
         requires { IsFiniteIterable I.into_iter_gives I.IntoIter.can_next I.IntoIter.remaining iter }
         ensures made { IfOk result (λ m. IsExtendedCounted K.cmp I.into_iter_gives I.IntoIter.next_gives
-            iter [] m.pairs count.old count.new) }
+            iter [] m.entries count.old count.new) }
+        ensures gathered { IfOk result
+            (λ m. IsGathered K.cmp (Gives I.into_iter_gives I.IntoIter.next_gives iter) [] m.entries) }
         ensures rising { OnOk result (GivesSuch I.into_iter_gives I.IntoIter.next_gives iter
             (λ given. Rising K.cmp given → RisesByAtMost (length given) count.old count.new)) }
         ensures refused_cost { OnErr result
@@ -74,8 +76,16 @@ impl<K: Ord + Drop, V: Drop, S: StoreBulkMut<K, V>> LiteMap<K, V, S> {
     /// ascending pairs stay where they are. Its contract speaks of the vector's list. If memory runs out, the error returns the
     /// pairs, or the last pair of each key in ascending order. It never fails for no pairs, nor for one over a short store;
     /// over a vector only a sort takes memory.
-    pub fn from_vec(alloc: Global, pairs: Vec<(K, V)>) -> Result<Self, NoRoom<Vec<(K, V)>>>
-        ensures made { IfOk result (λ m. Last K.cmp pairs.items m.pairs) }
+    pub fn from_vec(
+        alloc: S::Alloc,
+        pairs: Vec<(K, V), S::Alloc>,
+    ) -> Result<Self, NoRoom<Vec<(K, V), S::Alloc>>>
+        ensures made { IfOk result (λ m. Last K.cmp pairs.items m.entries) }
+        // What a lookup finds: the last value of the key, if there is one.
+        ensures found { IfOk result (λ m. (key : K)
+            → value_at K.cmp m.entries key ≡ value_at K.cmp (reverse pairs.items) key) }
+        // Ascending pairs stay as they are.
+        ensures stays { Rising K.cmp pairs.items → IfOk result (λ m. m.entries ≡ pairs.items) }
         ensures succeeds { Rising K.cmp pairs.items → length pairs.items ≤ S.free_room → IsOk result }
         ensures back { IfErr result (λ e. IsHandedBack K.cmp pairs.items e.back.items) }
     {
@@ -83,20 +93,32 @@ impl<K: Ord + Drop, V: Drop, S: StoreBulkMut<K, V>> LiteMap<K, V, S> {
     }
 
     /// Returns a map of the pairs of an array, as `from_vec` does of a vector, or an error if memory runs out (own).
-    pub fn from_array<const N: usize>(alloc: Global, pairs: [(K, V); N]) -> Result<Self, AllocError>
-        ensures { IfOk result (λ m. Last K.cmp pairs m.pairs) }
+    pub fn from_array<const N: usize>(
+        alloc: S::Alloc,
+        pairs: [(K, V); N],
+    ) -> Result<Self, AllocError>
+        ensures made { IfOk result (λ m. Last K.cmp pairs m.entries) }
+        ensures found { IfOk result (λ m. (key : K)
+            → value_at K.cmp m.entries key ≡ value_at K.cmp (reverse pairs) key) }
+        ensures stays { Rising K.cmp pairs → IfOk result (λ m. m.entries ≡ pairs) }
     {
-        Ok(LiteMap::from_vec(alloc, Vec::from_array(alloc, pairs)?)?)
+        match LiteMap::from_vec(alloc, Vec::from_array(alloc, pairs)?) {
+            Ok(map) => Ok(map),
+            Err(_) => Err(AllocError),
+        }
     }
 
     /// `from_vec`, counting its comparisons but for those that sort and drop equal keys: at most one for each pair if they
     /// ascend, also if it fails (own).
     pub fn from_vec_counted(
-        alloc: Global,
-        mut pairs: Vec<(K, V)>,
+        alloc: S::Alloc,
+        mut pairs: Vec<(K, V), S::Alloc>,
         count: &mut Count,
-    ) -> Result<Self, NoRoom<Vec<(K, V)>>>
-        ensures made { IfOk result (λ m. Last K.cmp pairs.items m.pairs) }
+    ) -> Result<Self, NoRoom<Vec<(K, V), S::Alloc>>>
+        ensures made { IfOk result (λ m. Last K.cmp pairs.items m.entries) }
+        ensures found { IfOk result (λ m. (key : K)
+            → value_at K.cmp m.entries key ≡ value_at K.cmp (reverse pairs.items) key) }
+        ensures stays { Rising K.cmp pairs.items → IfOk result (λ m. m.entries ≡ pairs.items) }
         ensures succeeds { Rising K.cmp pairs.items → length pairs.items ≤ S.free_room → IsOk result }
         ensures back { IfErr result (λ e. IsHandedBack K.cmp pairs.items e.back.items) }
         ensures rising { Rising K.cmp pairs.items → RisesByAtMost (length pairs.items) count.old count.new }
@@ -127,13 +149,13 @@ impl<K: Ord + Drop, V: Drop, S: StoreBulkMut<K, V>> LiteMap<K, V, S> {
     /// ```
     pub fn extend<I: IntoIterator<Item = (K, V)>>(
         &mut self,
-        alloc: Global,
+        alloc: S::Alloc,
         iter: I,
     ) -> Result<(), AllocError>
         requires { IsFiniteIterable I.into_iter_gives I.IntoIter.can_next I.IntoIter.remaining iter }
         ensures extended { OnOk result
-            (IsGathered K.cmp (Gives I.into_iter_gives I.IntoIter.next_gives iter) self.old.pairs self.new.pairs) }
-        ensures unchanged { OnErr result (self.new.pairs ≡ self.old.pairs) }
+            (IsGathered K.cmp (Gives I.into_iter_gives I.IntoIter.next_gives iter) self.old.entries self.new.entries) }
+        ensures unchanged { OnErr result (self.new.entries ≡ self.old.entries) }
         ensures refused_some { S.fails_for_pairs_only
             → OnErr result (GivesSome I.into_iter_gives I.IntoIter.next_gives iter) }
     {
@@ -144,21 +166,23 @@ impl<K: Ord + Drop, V: Drop, S: StoreBulkMut<K, V>> LiteMap<K, V, S> {
     /// (own).
     pub fn extend_counted<I: IntoIterator<Item = (K, V)>>(
         &mut self,
-        alloc: Global,
+        alloc: S::Alloc,
         iter: I,
         count: &mut Count,
     ) -> Result<(), AllocError>
         requires { IsFiniteIterable I.into_iter_gives I.IntoIter.can_next I.IntoIter.remaining iter }
         ensures extended { OnOk result (IsExtendedCounted K.cmp I.into_iter_gives I.IntoIter.next_gives
-            iter self.old.pairs self.new.pairs count.old count.new) }
+            iter self.old.entries self.new.entries count.old count.new) }
+        ensures gathered { OnOk result
+            (IsGathered K.cmp (Gives I.into_iter_gives I.IntoIter.next_gives iter) self.old.entries self.new.entries) }
         // The bounds of `extended`, each of its own.
         ensures all_above { OnOk result (GivesSuch I.into_iter_gives I.IntoIter.next_gives iter
-            (λ given. Rises K.cmp self.old.pairs given → RisesByAtMost (length given) count.old count.new)) }
+            (λ given. Rises K.cmp self.old.entries given → RisesByAtMost (length given) count.old count.new)) }
         ensures rising { OnOk result (GivesSuch I.into_iter_gives I.IntoIter.next_gives iter (λ given.
-            Rising K.cmp given → RisesByAtMost (length self.old.pairs + 2 * length given) count.old count.new)) }
-        ensures unchanged { OnErr result (self.new.pairs ≡ self.old.pairs) }
+            Rising K.cmp given → RisesByAtMost (length self.old.entries + 2 * length given) count.old count.new)) }
+        ensures unchanged { OnErr result (self.new.entries ≡ self.old.entries) }
         ensures refused_cost { OnErr result (IsRefusedCounted K.cmp I.into_iter_gives I.IntoIter.next_gives
-            iter self.old.pairs count.old count.new) }
+            iter self.old.entries count.old count.new) }
         ensures refused_some { S.fails_for_pairs_only
             → OnErr result (GivesSome I.into_iter_gives I.IntoIter.next_gives iter) }
         ensures refusal { OnErr result (count.old.refusals < count.new.refusals) }
@@ -176,17 +200,20 @@ impl<K: Ord + Drop, V: Drop, S: StoreBulkMut<K, V>> LiteMap<K, V, S> {
     /// promised of the room after it.
     pub fn extend_from_vec(
         &mut self,
-        alloc: Global,
-        pairs: Vec<(K, V)>,
-    ) -> Result<(), NoRoom<Vec<(K, V)>>>
-        ensures last { OnOk result (Last K.cmp (self.old.pairs ++ pairs.items) self.new.pairs) }
+        alloc: S::Alloc,
+        pairs: Vec<(K, V), S::Alloc>,
+    ) -> Result<(), NoRoom<Vec<(K, V), S::Alloc>>>
+        ensures last { OnOk result (Last K.cmp (self.old.entries ++ pairs.items) self.new.entries) }
         // What a lookup finds: the last new value of the key if there is one, else what it found before.
-        ensures found { OnOk result ((key : K) → value_at K.cmp self.new.pairs key
-            ≡ option_or (value_at K.cmp (reverse pairs.items) key) (value_at K.cmp self.old.pairs key)) }
+        ensures found { OnOk result ((key : K) → value_at K.cmp self.new.entries key
+            ≡ option_or (value_at K.cmp (reverse pairs.items) key) (value_at K.cmp self.old.entries key)) }
         // The same of lookups by anything else than a key.
-        ensures overlays { OnOk result (Overlays K.cmp self.old.pairs (reverse pairs.items) self.new.pairs) }
-        ensures unchanged { OnErr result (self.new.pairs ≡ self.old.pairs) }
-        ensures succeeds { Rises K.cmp self.old.pairs pairs.items → length pairs.items ≤ self.old.room → IsOk result }
+        ensures overlays { OnOk result (Overlays K.cmp self.old.entries (reverse pairs.items) self.new.entries) }
+        // If all keys ascend, the pairs stay as they are.
+        ensures stays { Rising K.cmp (self.old.entries ++ pairs.items)
+            → OnOk result (self.new.entries ≡ self.old.entries ++ pairs.items) }
+        ensures unchanged { OnErr result (self.new.entries ≡ self.old.entries) }
+        ensures succeeds { Rises K.cmp self.old.entries pairs.items → length pairs.items ≤ self.old.room → IsOk result }
         ensures back { IfErr result (λ e. IsHandedBack K.cmp pairs.items e.back.items) }
     {
         self.extend_from_vec_counted(alloc, pairs, &mut Count::new())
@@ -196,20 +223,22 @@ impl<K: Ord + Drop, V: Drop, S: StoreBulkMut<K, V>> LiteMap<K, V, S> {
     /// too (own).
     pub fn extend_from_vec_counted(
         &mut self,
-        alloc: Global,
-        mut pairs: Vec<(K, V)>,
+        alloc: S::Alloc,
+        mut pairs: Vec<(K, V), S::Alloc>,
         count: &mut Count,
-    ) -> Result<(), NoRoom<Vec<(K, V)>>>
-        ensures last { OnOk result (Last K.cmp (self.old.pairs ++ pairs.items) self.new.pairs) }
-        ensures found { OnOk result ((key : K) → value_at K.cmp self.new.pairs key
-            ≡ option_or (value_at K.cmp (reverse pairs.items) key) (value_at K.cmp self.old.pairs key)) }
-        ensures overlays { OnOk result (Overlays K.cmp self.old.pairs (reverse pairs.items) self.new.pairs) }
-        ensures unchanged { OnErr result (self.new.pairs ≡ self.old.pairs) }
-        ensures succeeds { Rises K.cmp self.old.pairs pairs.items → length pairs.items ≤ self.old.room → IsOk result }
+    ) -> Result<(), NoRoom<Vec<(K, V), S::Alloc>>>
+        ensures last { OnOk result (Last K.cmp (self.old.entries ++ pairs.items) self.new.entries) }
+        ensures found { OnOk result ((key : K) → value_at K.cmp self.new.entries key
+            ≡ option_or (value_at K.cmp (reverse pairs.items) key) (value_at K.cmp self.old.entries key)) }
+        ensures overlays { OnOk result (Overlays K.cmp self.old.entries (reverse pairs.items) self.new.entries) }
+        ensures stays { Rising K.cmp (self.old.entries ++ pairs.items)
+            → OnOk result (self.new.entries ≡ self.old.entries ++ pairs.items) }
+        ensures unchanged { OnErr result (self.new.entries ≡ self.old.entries) }
+        ensures succeeds { Rises K.cmp self.old.entries pairs.items → length pairs.items ≤ self.old.room → IsOk result }
         ensures back { IfErr result (λ e. IsHandedBack K.cmp pairs.items e.back.items) }
-        ensures all_above { Rises K.cmp self.old.pairs pairs.items → RisesByAtMost (length pairs.items) count.old count.new }
+        ensures all_above { Rises K.cmp self.old.entries pairs.items → RisesByAtMost (length pairs.items) count.old count.new }
         ensures rising { Rising K.cmp pairs.items
-            → RisesByAtMost (length self.old.pairs + 2 * length pairs.items) count.old count.new }
+            → RisesByAtMost (length self.old.entries + 2 * length pairs.items) count.old count.new }
         ensures refusal { OnErr result (count.old.refusals < count.new.refusals) }
     {
         match self.store.lm_extend_from_vec(alloc, &mut pairs, count) {

@@ -2,9 +2,13 @@
 ghost use Rattle.std.specs.Prelude.{◌≡◌, ◌↔◌, ◌+◌, ◌*◌, ◌≤◌, ◌<◌, [], ◌∷◌, ◌++◌, length, slice_get, remove, filter, Bool, Some};
 ghost use Rattle.std.specs.Prelude.{IsNone, IsSome, IsTrue, IsOk, None, Ok, IfOk, IfSome, OnOk, OnErr, true, false};
 ghost use Rattle.std.specs.Fn.{FnOnceReturnsAt, FnOnceTakesAt};
+ghost use Rattle.std.specs.Map.{keys_of};
+ghost use Rattle.std.specs.Ordering.{is_eq};
+ghost use Rattle.std.specs.Set.{remove_key};
 ghost use Rattle.litemap_store.specs.Counts.{RisesByAtMost, digits};
 ghost use Rattle.litemap_store.specs.Pairs.{AllBelow, Rising, at, place, put, value_at};
-ghost use Rattle.litemap_store.specs.Retain.{CallableOnEach, Kept, Tests};
+ghost use Rattle.litemap_store.specs.Retain.{Kept, Tests};
+ghost use Rattle.litemap.specs.Callable.{TakesPairs};
 ghost use Rattle.litemap_store.specs.Search.{CallableOnKeys};
 ghost use Rattle.litemap_store.specs.Splits.{IsMissingAt};
 ghost use Rattle.litemap.specs.Changes.{AddsIf, Inserts, RefusedFull, Removes, Renames};
@@ -12,7 +16,7 @@ ghost use Rattle.litemap.specs.FoundBy.{RemovesFound};
 ghost use Rattle.litemap.specs.Retained.{Retains, ReturnsAt};
 ghost use Rattle.std.specs.Borrow.{sem};
 ghost use Rattle.litemap.specs.Lends.{RestsAs};
-ghost use Rattle.litemap.specs.Updates.{Finds, KeysStay, Moves, Places, TakesPair, Updates};
+ghost use Rattle.litemap.specs.Updates.{Finds, KeysStay, Moves, MovesPlace, Places, TakesPair, Updates};
 ghost use Rattle.litemap.specs.TryFault.{FailsAs, IfClosure, IsInsertedAt, Shown};
 
 use crate::{LiteMap, TryFault};
@@ -38,9 +42,10 @@ impl<K: Ord + Drop, V, S: StoreMut<K, V>> LiteMap<K, V, S> {
     /// ```
     pub fn insert(&mut self, key: K, value: V) -> Result<Option<V>, NoRoom<(K, V)>>
         ensures inserts { Inserts K.cmp key value self.old self.new result }
-        ensures updates { OnOk result (Updates K.cmp key (Some value) self.old.pairs self.new.pairs) }
-        ensures places { OnOk result (Places K.cmp key (Some value) self.old.pairs self.new.pairs) }
-        ensures rising { Rising K.cmp self.old.pairs }
+        ensures updates { OnOk result (Updates K.cmp key (Some value) self.old.entries self.new.entries) }
+        ensures places { OnOk result (Places K.cmp key (Some value) self.old.entries self.new.entries) }
+        ensures keys_stay { IfOk result (λ old. IsSome old → keys_of self.new.entries ≡ keys_of self.old.entries) }
+        ensures rising { Rising K.cmp self.old.entries }
     {
         self.insert_counted(key, value, &mut Count::new())
     }
@@ -53,10 +58,11 @@ impl<K: Ord + Drop, V, S: StoreMut<K, V>> LiteMap<K, V, S> {
         count: &mut Count,
     ) -> Result<Option<V>, NoRoom<(K, V)>>
         ensures inserts { Inserts K.cmp key value self.old self.new result }
-        ensures updates { OnOk result (Updates K.cmp key (Some value) self.old.pairs self.new.pairs) }
-        ensures places { OnOk result (Places K.cmp key (Some value) self.old.pairs self.new.pairs) }
-        ensures rising { Rising K.cmp self.old.pairs }
-        ensures cost { RisesByAtMost (digits (length self.old.pairs)) count.old count.new }
+        ensures updates { OnOk result (Updates K.cmp key (Some value) self.old.entries self.new.entries) }
+        ensures places { OnOk result (Places K.cmp key (Some value) self.old.entries self.new.entries) }
+        ensures keys_stay { IfOk result (λ old. IsSome old → keys_of self.new.entries ≡ keys_of self.old.entries) }
+        ensures rising { Rising K.cmp self.old.entries }
+        ensures cost { RisesByAtMost (digits (length self.old.entries)) count.old count.new }
     {
         match self.search(&key, count) {
             Ok(index) => Ok(Some(mem::replace(self.value_in_mut(index), value))),
@@ -67,11 +73,10 @@ impl<K: Ord + Drop, V, S: StoreMut<K, V>> LiteMap<K, V, S> {
         }
     }
 
-    /// Prefer `try_find_or_insert`, if the map is used afterwards. Returns the index and the value of a key; if the key was
-    /// absent, inserts it first with what `f` returns for it.
+    /// Returns the index and the value of a key; if the key was absent, inserts it first with what `f` returns for it.
     ///
-    /// Errors, comparisons and moves are those of `try_find_or_insert`, whose contract says what the map is afterwards. Here only
-    /// the clause `leaves` does, and only a proof by hand can use it (docs/DECISIONS.md).
+    /// Errors, comparisons and moves are those of `try_find_or_insert`, whose contract says what the map is afterwards: use that
+    /// one if a proof has to know it. Here only the clause `leaves` says it, for a proof by hand (docs/DECISIONS.md).
     ///
     /// ```rust
     /// let mut days = three_days(alloc)?;
@@ -82,18 +87,18 @@ impl<K: Ord + Drop, V, S: StoreMut<K, V>> LiteMap<K, V, S> {
         key: K,
         f: F,
     ) -> Result<(usize, &V), TryFault<K, V, E>>
-        requires { IsNone (at K.cmp self.old.pairs key) → FnOnceTakesAt F.FnOnce f key }
+        requires { IsNone (at K.cmp self.old.entries key) → FnOnceTakesAt F.FnOnce f key }
         // The map once the borrow of the value has ended.
         ensures* leaves { sem 𝓛 (RestsAs K.row V.row S.row K.Ord S.pairs S.room self.entry
             (IsInsertedAt F.FnOnce f K.cmp key self.old result)) }
         // The index and the value: what was found, or what the closure returned.
-        ensures place { IfOk result (λ there. there.0 ≡ place K.cmp self.old.pairs key) }
-        ensures present { IsSome (at K.cmp self.old.pairs key) → IsOk result }
-        ensures within { IsSome (at K.cmp self.old.pairs key)
-            → IfOk result (λ there. there.0 < length self.old.pairs) }
-        ensures value { IsSome (at K.cmp self.old.pairs key)
-            → IfOk result (λ there. Some there.1.now ≡ value_at K.cmp self.old.pairs key) }
-        ensures answered { IsNone (at K.cmp self.old.pairs key)
+        ensures place { IfOk result (λ there. there.0 ≡ place K.cmp self.old.entries key) }
+        ensures present { IsSome (at K.cmp self.old.entries key) → IsOk result }
+        ensures within { IsSome (at K.cmp self.old.entries key)
+            → IfOk result (λ there. there.0 < length self.old.entries) }
+        ensures value { IsSome (at K.cmp self.old.entries key)
+            → IfOk result (λ there. Some there.1.now ≡ value_at K.cmp self.old.entries key) }
+        ensures answered { IsNone (at K.cmp self.old.entries key)
             → IfOk result (λ there. FnOnceReturnsAt F.FnOnce f key (Ok there.1.now)) }
         ensures errors { FailsAs F.FnOnce f key self.old.room result }
     {
@@ -115,8 +120,8 @@ impl<K: Ord + Drop, V, S: StoreMut<K, V>> LiteMap<K, V, S> {
         &self,
         found: Result<usize, TryFault<K, V, E>>,
     ) -> Result<(usize, &V), TryFault<K, V, E>>
-        requires { IfOk found (λ index. index < length self.now.pairs) }
-        ensures { Shown self.now.pairs found result }
+        requires { IfOk found (λ index. index < length self.now.entries) }
+        ensures { Shown self.now.entries found result }
     {
         match found {
             Ok(index) => Ok((index, self.value_in(index).unwrap())),
@@ -143,19 +148,19 @@ impl<K: Ord + Drop, V, S: StoreMut<K, V>> LiteMap<K, V, S> {
         key: K,
         f: F,
     ) -> Result<usize, TryFault<K, V, E>>
-        requires { IsNone (at K.cmp self.old.pairs key) → FnOnceTakesAt F.FnOnce f key }
+        requires { IsNone (at K.cmp self.old.entries key) → FnOnceTakesAt F.FnOnce f key }
         // The index, and the pair that is there after the call.
-        ensures place { IfOk result (λ index. index ≡ place K.cmp self.old.pairs key) }
-        ensures within { IfOk result (λ index. index < length self.new.pairs) }
-        ensures there { IfOk result (λ index. slice_get self.new.pairs index ≡ at K.cmp self.new.pairs key) }
+        ensures place { IfOk result (λ index. index ≡ place K.cmp self.old.entries key) }
+        ensures within { IfOk result (λ index. index < length self.new.entries) }
+        ensures there { IfOk result (λ index. slice_get self.new.entries index ≡ at K.cmp self.new.entries key) }
         // The map as it was if the key is present, else with what the closure returned.
-        ensures present { IsSome (at K.cmp self.old.pairs key) → IsOk result × (self.new ≡ self.old) }
-        ensures put { IsNone (at K.cmp self.old.pairs key) → OnOk result
-            ((v : V) × FnOnceReturnsAt F.FnOnce f key (Ok v) × (self.new.pairs ≡ put K.cmp self.old.pairs key v)) }
+        ensures present { IsSome (at K.cmp self.old.entries key) → IsOk result × (self.new ≡ self.old) }
+        ensures put { IsNone (at K.cmp self.old.entries key) → OnOk result
+            ((v : V) × FnOnceReturnsAt F.FnOnce f key (Ok v) × (self.new.entries ≡ put K.cmp self.old.entries key v)) }
         ensures room { self.old.room ≤ self.new.room + 1 }
         // If nothing is inserted the list stays; if the closure returns an error, so does the room.
         ensures errors { FailsAs F.FnOnce f key self.old.room result }
-        ensures unchanged { OnErr result (self.new.pairs ≡ self.old.pairs) }
+        ensures unchanged { OnErr result (self.new.entries ≡ self.old.entries) }
         ensures unchanged_by_closure { IfClosure result (λ _. self.new ≡ self.old) }
     {
         let index = match self.search(&key, &mut Count::new()) {
@@ -180,30 +185,34 @@ impl<K: Ord + Drop, V, S: StoreMut<K, V>> LiteMap<K, V, S> {
     ///
     /// ```rust
     /// let mut days = three_days(alloc)?;
-    /// let is_removed = days.remove(&3) == Some("Wednesday") && days.remove_by(|number| number.cmp(&5)) == Some("Friday");
+    /// let wednesday = days.remove(&3);
+    /// let friday = days.remove_by(|number| number.cmp(&5));
+    /// let is_removed = wednesday == Some("Wednesday") && friday == Some("Friday");
     /// days.clear();
     /// Ok(is_removed && days.remove(&1).is_none())
     /// ```
     pub fn remove<Q: Query<K>>(&mut self, key: Q) -> Option<V>
-        ensures value { result ≡ value_at Q.order self.old.pairs (Q.sought key) }
+        ensures value { result ≡ value_at Q.order self.old.entries (Q.sought key) }
         ensures removed { Removes Q.order (Q.sought key) S.keeps_memory self.old self.new result }
-        ensures updates { Finds Q.order (Q.sought key) None self.old.pairs self.new.pairs }
-        ensures others { KeysStay K.cmp Q.order (Q.sought key) self.old.pairs self.new.pairs }
-        ensures places { Places Q.order (Q.sought key) None self.old.pairs self.new.pairs }
-        ensures rising { Rising K.cmp self.old.pairs }
+        ensures updates { Finds Q.order (Q.sought key) None self.old.entries self.new.entries }
+        ensures others { KeysStay K.cmp Q.order (Q.sought key) self.old.entries self.new.entries }
+        ensures places { Places Q.order (Q.sought key) None self.old.entries self.new.entries }
+        ensures keys { keys_of self.new.entries ≡ remove_key (λ k. is_eq (Q.order k (Q.sought key))) (keys_of self.old.entries) }
+        ensures rising { Rising K.cmp self.old.entries }
     {
         self.remove_counted(key, &mut Count::new())
     }
 
     /// `remove`, counting its comparisons (own).
     pub fn remove_counted<Q: Query<K>>(&mut self, key: Q, count: &mut Count) -> Option<V>
-        ensures value { result ≡ value_at Q.order self.old.pairs (Q.sought key) }
+        ensures value { result ≡ value_at Q.order self.old.entries (Q.sought key) }
         ensures removed { Removes Q.order (Q.sought key) S.keeps_memory self.old self.new result }
-        ensures updates { Finds Q.order (Q.sought key) None self.old.pairs self.new.pairs }
-        ensures others { KeysStay K.cmp Q.order (Q.sought key) self.old.pairs self.new.pairs }
-        ensures places { Places Q.order (Q.sought key) None self.old.pairs self.new.pairs }
-        ensures rising { Rising K.cmp self.old.pairs }
-        ensures cost { RisesByAtMost (digits (length self.old.pairs)) count.old count.new }
+        ensures updates { Finds Q.order (Q.sought key) None self.old.entries self.new.entries }
+        ensures others { KeysStay K.cmp Q.order (Q.sought key) self.old.entries self.new.entries }
+        ensures places { Places Q.order (Q.sought key) None self.old.entries self.new.entries }
+        ensures keys { keys_of self.new.entries ≡ remove_key (λ k. is_eq (Q.order k (Q.sought key))) (keys_of self.old.entries) }
+        ensures rising { Rising K.cmp self.old.entries }
+        ensures cost { RisesByAtMost (digits (length self.old.entries)) count.old count.new }
     {
         Some(self.take_out(key, count)?.1)
     }
@@ -226,7 +235,8 @@ impl<K: Ord + Drop, V, S: StoreMut<K, V>> LiteMap<K, V, S> {
         V: Drop,
         S: KeepsMemory<K, V>,
         ensures renamed { Renames Q.order (Q.sought key) K.cmp new_key self.old self.new result }
-        ensures moves { Moves Q.order (Q.sought key) K.cmp new_key self.old.pairs self.new.pairs }
+        ensures moves { Moves Q.order (Q.sought key) K.cmp new_key self.old.entries self.new.entries }
+        ensures places { MovesPlace Q.order (Q.sought key) K.cmp new_key self.old.entries self.new.entries }
     {
         self.rename_counted(key, new_key, &mut Count::new())
     }
@@ -237,8 +247,9 @@ impl<K: Ord + Drop, V, S: StoreMut<K, V>> LiteMap<K, V, S> {
         V: Drop,
         S: KeepsMemory<K, V>,
         ensures renamed { Renames Q.order (Q.sought key) K.cmp new_key self.old self.new result }
-        ensures moves { Moves Q.order (Q.sought key) K.cmp new_key self.old.pairs self.new.pairs }
-        ensures cost { RisesByAtMost (2 * digits (length self.old.pairs)) count.old count.new }
+        ensures moves { Moves Q.order (Q.sought key) K.cmp new_key self.old.entries self.new.entries }
+        ensures places { MovesPlace Q.order (Q.sought key) K.cmp new_key self.old.entries self.new.entries }
+        ensures cost { RisesByAtMost (2 * digits (length self.old.entries)) count.old count.new }
     {
         let Some(value) = self.remove_counted(key, count) else {
             return false;
@@ -250,10 +261,10 @@ impl<K: Ord + Drop, V, S: StoreMut<K, V>> LiteMap<K, V, S> {
     /// Removes a pair for whose key `f` returns `Equal`, and returns its value, or `None` if there is none (own). The key of
     /// the pair is dropped. It calls `f` as `get_by` does, and moves the pairs with greater keys down by one.
     pub fn remove_by<F: FnMut(&K) -> Ordering>(&mut self, f: F) -> Option<V>
-        requires { CallableOnKeys F.FnMut self.old.pairs f }
-        ensures found { RemovesFound F.FnMut self.old.pairs f result self.new.pairs }
+        requires { CallableOnKeys F.FnMut self.old.entries f }
+        ensures found { RemovesFound F.FnMut self.old.entries f result self.new.entries }
         ensures unchanged { IsNone result → self.new ≡ self.old }
-        ensures taken { IfSome result (λ v. (key : K) × TakesPair K.cmp (key, v) self.old.pairs self.new.pairs) }
+        ensures taken { IfSome result (λ v. (key : K) × TakesPair K.cmp (key, v) self.old.entries self.new.entries) }
         ensures room { S.keeps_memory → IsSome result → self.old.room < self.new.room }
     {
         match self.find_index_by(f) {
@@ -266,8 +277,8 @@ impl<K: Ord + Drop, V, S: StoreMut<K, V>> LiteMap<K, V, S> {
     pub fn clear(&mut self)
     where
         V: Drop,
-        ensures pairs { self.new.pairs ≡ [] }
-        ensures room { S.keeps_memory → self.old.room + length self.old.pairs ≤ self.new.room }
+        ensures pairs { self.new.entries ≡ [] }
+        ensures room { S.keeps_memory → self.old.room + length self.old.entries ≤ self.new.room }
     {
         self.store.lm_clear();
     }
@@ -282,10 +293,12 @@ impl<K: Ord, V, S: StoreMut<K, V>> LiteMap<K, V, S> {
     /// Ok(days.try_insert(2, "Tuesday")?.is_none() && days.try_insert(5, "Fri")? == Some((5, "Fri")))
     /// ```
     pub fn try_insert(&mut self, key: K, value: V) -> Result<Option<(K, V)>, NoRoom<(K, V)>>
-        ensures adds { AddsIf (IsNone (at K.cmp self.old.pairs key)) (put K.cmp self.old.pairs key value) (key, value)
+        ensures adds { AddsIf (IsNone (at K.cmp self.old.entries key)) (put K.cmp self.old.entries key value) (key, value)
             self.old self.new result }
         ensures updates { IfOk result (λ back. IsNone back
-            → Updates K.cmp key (Some value) self.old.pairs self.new.pairs) }
+            → Updates K.cmp key (Some value) self.old.entries self.new.entries) }
+        ensures places { IfOk result (λ back. IsNone back
+            → Places K.cmp key (Some value) self.old.entries self.new.entries) }
     {
         match self.search(&key, &mut Count::new()) {
             Ok(_) => Ok(Some((key, value))),
@@ -302,13 +315,16 @@ impl<K: Ord, V, S: StoreMut<K, V>> LiteMap<K, V, S> {
     ///
     /// ```rust
     /// let mut days = three_days(alloc)?;
-    /// Ok(days.try_append(6, "Saturday")?.is_none() && days.try_append(2, "Tuesday")? == Some((2, "Tuesday")))
+    /// let is_appended = days.try_append(6, "Saturday")?.is_none();
+    /// Ok(is_appended && days.try_append(2, "Tuesday")? == Some((2, "Tuesday")))
     /// ```
     pub fn try_append(&mut self, key: K, value: V) -> Result<Option<(K, V)>, NoRoom<(K, V)>>
-        ensures adds { AddsIf (AllBelow K.cmp self.old.pairs key) (self.old.pairs ++ (key, value) ∷ []) (key, value)
+        ensures adds { AddsIf (AllBelow K.cmp self.old.entries key) (self.old.entries ++ (key, value) ∷ []) (key, value)
             self.old self.new result }
         ensures updates { IfOk result (λ back. IsNone back
-            → Updates K.cmp key (Some value) self.old.pairs self.new.pairs) }
+            → Updates K.cmp key (Some value) self.old.entries self.new.entries) }
+        ensures places { IfOk result (λ back. IsNone back
+            → Places K.cmp key (Some value) self.old.entries self.new.entries) }
     {
         if !self.is_above_all(&key) {
             return Ok(Some((key, value)));
@@ -320,7 +336,7 @@ impl<K: Ord, V, S: StoreMut<K, V>> LiteMap<K, V, S> {
     /// Reserves capacity for at least `additional` more pairs, or returns an error if memory runs out or the store is full. It
     /// fails only if there was less room, and never lowers the room.
     pub fn reserve(&mut self, additional: usize) -> Result<(), AllocError>
-        ensures pairs { self.new.pairs ≡ self.old.pairs }
+        ensures pairs { self.new.entries ≡ self.old.entries }
         ensures room { OnOk result (additional ≤ self.new.room) }
         ensures room_not_lowered { self.old.room ≤ self.new.room }
         ensures full { OnErr result (self.old.room < additional) }
@@ -330,7 +346,7 @@ impl<K: Ord, V, S: StoreMut<K, V>> LiteMap<K, V, S> {
 
     // Compares with the last key alone.
     fn is_above_all(&self, key: &K) -> bool
-        ensures { IsTrue result ↔ AllBelow K.cmp self.now.pairs key.now }
+        ensures { IsTrue result ↔ AllBelow K.cmp self.now.entries key.now }
     {
         match self.store.lm_last() {
             None => true,
@@ -339,8 +355,8 @@ impl<K: Ord, V, S: StoreMut<K, V>> LiteMap<K, V, S> {
     }
 
     pub(super) fn insert_at(&mut self, index: usize, key: K, value: V) -> Result<(), NoRoom<(K, V)>>
-        requires { IsMissingAt K.cmp self.old.pairs key index }
-        ensures put { OnOk result (self.new.pairs ≡ put K.cmp self.old.pairs key value) }
+        requires { IsMissingAt K.cmp self.old.entries key index }
+        ensures put { OnOk result (self.new.entries ≡ put K.cmp self.old.entries key value) }
         ensures refused { RefusedFull (key, value) self.old self.new result }
     {
         self.store.lm_insert(index, key, value)
@@ -360,19 +376,19 @@ impl<K: Ord + Drop, V: Drop, S: StoreBulkMut<K, V>> LiteMap<K, V, S> {
     /// Ok(days.as_slice() == [(1, "Monday"), (3, "Wednesday")].as_slice())
     /// ```
     pub fn retain<F: FnMut(&K, &V) -> bool>(&mut self, f: F)
-        requires { CallableOnEach F.FnMut f self.old.pairs }
-        ensures kept { Kept F.FnMut f self.old.pairs self.new.pairs }
+        requires { TakesPairs F.FnMut K.cmp f self.old.entries }
+        ensures kept { Kept F.FnMut f self.old.entries self.new.entries }
         ensures filtered { (test : K × V → Bool)
-            → Tests F.FnMut f test → self.new.pairs ≡ filter test self.old.pairs }
+            → Tests F.FnMut f test → self.new.entries ≡ filter test self.old.entries }
         // What a lookup finds: if `f` returns true for the pair, what it found before; if false, nothing.
-        ensures stays { (key : K) → ReturnsAt F.FnMut f K.cmp self.old.pairs key true
-            → value_at K.cmp self.new.pairs key ≡ value_at K.cmp self.old.pairs key }
-        ensures gone { (key : K) → ReturnsAt F.FnMut f K.cmp self.old.pairs key false
-            → value_at K.cmp self.new.pairs key ≡ None }
+        ensures stays { (key : K) → ReturnsAt F.FnMut f K.cmp self.old.entries key true
+            → value_at K.cmp self.new.entries key ≡ value_at K.cmp self.old.entries key }
+        ensures gone { (key : K) → ReturnsAt F.FnMut f K.cmp self.old.entries key false
+            → value_at K.cmp self.new.entries key ≡ None }
         // The same of any query.
-        ensures retains { Retains F.FnMut f K.cmp self.old.pairs self.new.pairs }
-        ensures fewer { length self.new.pairs ≤ length self.old.pairs }
-        ensures room { S.keeps_memory → self.old.room + length self.old.pairs ≤ self.new.room + length self.new.pairs }
+        ensures retains { Retains F.FnMut f K.cmp self.old.entries self.new.entries }
+        ensures fewer { length self.new.entries ≤ length self.old.entries }
+        ensures room { S.keeps_memory → self.old.room + length self.old.entries ≤ self.new.room + length self.new.entries }
     {
         self.store.lm_retain(f);
     }

@@ -14,9 +14,9 @@ use std::hash::{Hash, Hasher};
 
 /// Maps are equal if they have the same length, and equal keys and equal values at each index.
 impl<K: Ord, V: PartialEq, S: Store<K, V>> PartialEq for LiteMap<K, V, S> {
-    ghost eq = { λ m n. equal_pairs K.eq V.eq m.pairs n.pairs };
+    ghost eq = { λ m n. equal_pairs K.eq V.eq m.entries n.entries };
 
-    ghost laws = { on_per (λ m. m.pairs) (lists_per (and_per (on_per (λ p. p.0) K.PartialEq.laws)
+    ghost laws = { on_per (λ m. m.entries) (lists_per (and_per (on_per (λ p. p.0) K.PartialEq.laws)
         (on_per (λ p. p.1) V.laws))) };
 
     fn eq(&self, other: &Self) -> bool {
@@ -36,7 +36,7 @@ impl<K: Ord, V: PartialEq, S: Store<K, V>> PartialEq for LiteMap<K, V, S> {
 }
 
 impl<K: Ord, V: Eq, S: Store<K, V>> Eq for LiteMap<K, V, S> {
-    ghost laws = { on_equiv (λ m. m.pairs) (lists_equiv (and_equiv (on_equiv (λ p. p.0) K.Eq.laws)
+    ghost laws = { on_equiv (λ m. m.entries) (lists_equiv (and_equiv (on_equiv (λ p. p.0) K.Eq.laws)
         (on_equiv (λ p. p.1) V.Eq.laws))) };
 }
 
@@ -49,9 +49,9 @@ impl<K: Ord, V: Eq, S: Store<K, V>> Eq for LiteMap<K, V, S> {
 /// begin < all && begin.cmp(&all).is_lt()
 /// ```
 impl<K: Ord, V: PartialOrd, S: Store<K, V>> PartialOrd for LiteMap<K, V, S> {
-    ghost partial_cmp = { λ m n. pairs_partial_cmp K.partial_cmp V.partial_cmp m.pairs n.pairs };
+    ghost partial_cmp = { λ m n. pairs_partial_cmp K.partial_cmp V.partial_cmp m.entries n.entries };
 
-    ghost laws = { on_po (λ m. m.pairs) (lists_po (then_po (on_po (λ p. p.0) K.PartialOrd.laws)
+    ghost laws = { on_po (λ m. m.entries) (lists_po (then_po (on_po (λ p. p.0) K.PartialOrd.laws)
         (on_po (λ p. p.1) V.PartialOrd.laws))) };
 
     fn partial_cmp(&self, other: &Self) -> Option<Ordering> {
@@ -75,20 +75,20 @@ impl<K: Ord, V: PartialOrd, S: Store<K, V>> PartialOrd for LiteMap<K, V, S> {
 
 /// The same order, if that of the values is total.
 impl<K: Ord, V: Ord, S: Store<K, V>> Ord for LiteMap<K, V, S> {
-    ghost cmp = { λ m n. pairs_cmp K.cmp V.cmp m.pairs n.pairs };
+    ghost cmp = { λ m n. pairs_cmp K.cmp V.cmp m.entries n.entries };
 
-    ghost total = { on_total (λ m. m.pairs) (lists_total (then_total (on_total (λ p. p.0) K.total)
+    ghost total = { on_total (λ m. m.entries) (lists_total (then_total (on_total (λ p. p.0) K.total)
         (on_total (λ p. p.1) V.total))) };
 
     ghost matches_partial_cmp = { λ m n. lists_agrees (then_agrees (λ p q. K.matches_partial_cmp p.0 q.0)
-        (λ p q. V.matches_partial_cmp p.1 q.1)) m.pairs n.pairs };
+        (λ p q. V.matches_partial_cmp p.1 q.1)) m.entries n.entries };
 
     ghost matches_eq = { λ m n.
         let by_key = K.cmp in
         let by_value = V.cmp in
         lists_ties (λ p q. ordering_then (by_key p.0 q.0) (by_value p.1 q.1))
         (λ p q. both_tied _ _ (by_key p.0 q.0) (by_value p.1 q.1) (K.matches_eq p.0 q.0) (V.matches_eq p.1 q.1))
-        m.pairs n.pairs };
+        m.entries n.entries };
 
     fn cmp(&self, other: &Self) -> Ordering {
         self.partial_cmp(other).unwrap()
@@ -97,9 +97,9 @@ impl<K: Ord, V: Ord, S: Store<K, V>> Ord for LiteMap<K, V, S> {
 
 /// Hashes the length, then each key and its value in turn: so equal maps hash alike.
 impl<K: Ord + Hash, V: Hash, S: Store<K, V>> Hash for LiteMap<K, V, S> {
-    ghost hash_input = { λ m. pairs_hashed K.hash_input V.hash_input m.pairs };
+    ghost hash_input = { λ m. pairs_hashed K.hash_input V.hash_input m.entries };
 
-    ghost respects_eq = { (on_Alike (λ m. m.pairs) (items_Alike (and-Alike
+    ghost respects_eq = { (on_Alike (λ m. m.entries) (items_Alike (and-Alike
         (on_Alike (λ p. p.0) (record { fed = K.respects_eq }))
         (on_Alike (λ p. p.1) (record { fed = V.respects_eq }))))).fed };
 

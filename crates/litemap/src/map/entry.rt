@@ -8,11 +8,11 @@ ghost use Rattle.std.specs.Prelude.{unwrap_or};
 ghost use Rattle.std.specs.Borrow.{sem, MutBor};
 ghost use Rattle.std.specs.Fn.{FnOnceReturnsAt, FnOnceTakesAt};
 ghost use Rattle.litemap_store.specs.Splits.{IsMissingAt};
+ghost use Rattle.litemap.specs.Updates.{Updates};
 
 use crate::{LiteMap, TryFault};
 use litemap_store::Query;
 use litemap_store::store::{Count, NoRoom, Store, StoreMut};
-use std::alloc::Global;
 use std::default::MadeWith;
 use std::fmt::{self, Debug, Formatter, Write};
 use std::mem;
@@ -21,9 +21,10 @@ use std::mem;
 ///
 /// ```rust
 /// // hours: 1 8, 3 10
-/// let is_made = *hours.entry(2).or_default()? == 0 && *hours.entry(4).or_insert_with(|| 9)? == 9 && *hours.entry(4).key() == 4;
+/// let is_default = *hours.entry(2).or_default()? == 0;
+/// let is_made = *hours.entry(4).or_insert_with(|| 9)? == 9 && *hours.entry(4).key() == 4;
 /// match hours.entry(5) {
-///     Entry::Vacant(entry) => Ok(is_made && entry.into_key() == 5),
+///     Entry::Vacant(entry) => Ok(is_default && is_made && entry.into_key() == 5),
 ///     Entry::Occupied(_) => Ok(false),
 /// }
 /// ```
@@ -43,15 +44,17 @@ pub enum Entry<'a, K: Ord, V, S: Store<K, V>> {
 ///     return Ok(false);
 /// };
 /// *entry.get_mut() = 7;
-/// let is_nine = *entry.key() == 1 && *entry.get() == 7 && entry.insert(9) == 7 && *entry.into_mut() == 9;
-/// let (first, last) = (hours.first_entry().map(|it| it.remove_entry()), hours.last_entry().map(|it| it.remove()));
+/// let is_seven = *entry.key() == 1 && *entry.get() == 7;
+/// let is_nine = is_seven && entry.insert(9) == 7 && *entry.into_mut() == 9;
+/// let first = hours.first_entry().map(|it| it.remove_entry());
+/// let last = hours.last_entry().map(|it| it.remove());
 /// Ok(is_nine && first == Some((1, 9)) && last == Some(10))
 /// ```
 #[derive(Drop)]
 pub struct OccupiedEntry<'a, K: Ord, V, S: Store<K, V>> {
     map: &'a mut LiteMap<K, V, S>,
     index: usize,
-    ghost within: { index < length map.now.pairs },
+    ghost within: { index < length map.now.entries },
 }
 
 /// The entry of an absent key.
@@ -60,7 +63,7 @@ pub struct VacantEntry<'a, K: Ord, V, S: Store<K, V>> {
     map: &'a mut LiteMap<K, V, S>,
     key: K,
     index: usize,
-    ghost missing: { IsMissingAt K.cmp map.now.pairs key index },
+    ghost missing: { IsMissingAt K.cmp map.now.entries key index },
 }
 
 impl<K: Ord + Drop, V, S: StoreMut<K, V>> LiteMap<K, V, S> {
@@ -76,7 +79,8 @@ impl<K: Ord + Drop, V, S: StoreMut<K, V>> LiteMap<K, V, S> {
     /// ```rust
     /// // days: 1 Monday, 3 Wednesday, 5 Friday
     /// *days.entry(1).or_insert("no day")? = "Mon";
-    /// Ok(*days.entry(2).or_insert("Tuesday")? == "Tuesday" && days.get(&1) == Some(&"Mon") && days.len() == 4)
+    /// let is_inserted = *days.entry(2).or_insert("Tuesday")? == "Tuesday";
+    /// Ok(is_inserted && days.get(&1) == Some(&"Mon") && days.len() == 4)
     /// ```
     pub fn entry(&mut self, key: K) -> Entry<'_, K, V, S>
         // The map that it borrows, unchanged.
@@ -84,12 +88,14 @@ impl<K: Ord + Drop, V, S: StoreMut<K, V>> LiteMap<K, V, S> {
         ensures unchanged { (entry_map result).now ≡ self.old }
         // Occupied exactly if an equal key is present.
         ensures found { MatchEntry result
-            (IsSome (at K.cmp self.old.pairs key)) (IsNone (at K.cmp self.old.pairs key)) }
-        ensures key { entry_key result ≡ Some (key_or (at K.cmp self.old.pairs key) key) }
-        ensures value { entry_value result ≡ value_at K.cmp self.old.pairs key }
+            (IsSome (at K.cmp self.old.entries key)) (IsNone (at K.cmp self.old.entries key)) }
+        ensures key { entry_key result ≡ Some (key_or (at K.cmp self.old.entries key) key) }
+        ensures value { entry_value result ≡ value_at K.cmp self.old.entries key }
         // What a write through it makes of the pairs, and what a removal does.
-        ensures writes { (v : V) → pairs_with result v ≡ put K.cmp self.old.pairs key v }
-        ensures removes { pairs_without result ≡ cut K.cmp self.old.pairs key }
+        ensures writes { (v : V) → pairs_with result v ≡ put K.cmp self.old.entries key v }
+        ensures removes { pairs_without result ≡ cut K.cmp self.old.entries key }
+        // What lookups find after a write.
+        ensures updates { (v : V) → Updates K.cmp key (Some v) self.old.entries (pairs_with result v) }
     {
         match self.search(&key, &mut Count::new()) {
             Ok(index) => Entry::Occupied(OccupiedEntry { map: self, index }),
@@ -118,17 +124,17 @@ impl<K: Ord + Drop, V, S: StoreMut<K, V>> LiteMap<K, V, S> {
         query: Q,
         make: F,
     ) -> Result<Entry<'_, K, V, S>, E>
-        requires { at Q.order self.old.pairs (Q.sought query) ≡ None → F.pre make }
+        requires { at Q.order self.old.entries (Q.sought query) ≡ None → F.pre make }
         // The map that it borrows, unchanged; so is the map after an error.
         ensures same_map { IfOk result (λ e. (entry_map e).ghost_name ≡ self.entry.ghost_name) }
         ensures unchanged { IfOk result (λ e. (entry_map e).now ≡ self.old) }
         ensures* rests { sem 𝓛 (RestsIfRefused K.row V.row S.row self.entry result) }
         // The entry of the key that is found, or of the one that is made.
-        ensures found { IsSome (at Q.order self.old.pairs (Q.sought query))
-            → IfOk result (IsFoundBy Q.order self.old.pairs (Q.sought query)) }
-        ensures made { at Q.order self.old.pairs (Q.sought query) ≡ None
-            → IfOk result (λ e. (key : K) × F.post make (Ok key) × IsEntryOf self.old.pairs key e) }
-        ensures absent { OnErr result (at Q.order self.old.pairs (Q.sought query) ≡ None) }
+        ensures found { IsSome (at Q.order self.old.entries (Q.sought query))
+            → IfOk result (IsFoundBy Q.order self.old.entries (Q.sought query)) }
+        ensures made { at Q.order self.old.entries (Q.sought query) ≡ None
+            → IfOk result (λ e. (key : K) × F.post make (Ok key) × IsEntryOf self.old.entries key e) }
+        ensures absent { OnErr result (at Q.order self.old.entries (Q.sought query) ≡ None) }
         ensures error { IfErr result (λ error. F.post make (Err error)) }
     {
         if let Ok(index) = self.search(query, &mut Count::new()) {
@@ -149,12 +155,14 @@ impl<K: Ord, V, S: StoreMut<K, V>> LiteMap<K, V, S> {
     /// Ok(days.first_entry().map(|entry| entry.remove_entry()) == Some((1, "Monday")) && days.len() == 2)
     /// ```
     pub fn first_entry(&mut self) -> Option<OccupiedEntry<'_, K, V, S>>
-        ensures there { IsSome result ↔ (0 < length self.old.pairs) }
-        ensures entry { IfSome result (IsEntryAt self.old.pairs 0) }
+        ensures there { IsSome result ↔ (0 < length self.old.entries) }
+        ensures entry { IfSome result (IsEntryAt self.old.entries 0) }
         ensures same_map { IfSome result (λ o. (entry_map (Occupied o)).ghost_name ≡ self.entry.ghost_name) }
         ensures unchanged { IfSome result (λ o. (entry_map (Occupied o)).now ≡ self.old) }
         ensures* rests { sem 𝓛 (RestsIfEmpty K.row V.row S.row self.entry result) }
     {
+        // For the proof: the keys ascend.
+        self.keys_ascend();
         if self.is_empty() {
             return None;
         }
@@ -171,8 +179,8 @@ impl<K: Ord, V, S: StoreMut<K, V>> LiteMap<K, V, S> {
     /// Ok(days.last_entry().map(|entry| entry.remove()) == Some("Friday") && days.len() == 2)
     /// ```
     pub fn last_entry(&mut self) -> Option<OccupiedEntry<'_, K, V, S>>
-        ensures there { IsSome result ↔ (0 < length self.old.pairs) }
-        ensures entry { IfSome result (IsEntryAt self.old.pairs (length self.old.pairs - 1)) }
+        ensures there { IsSome result ↔ (0 < length self.old.entries) }
+        ensures entry { IfSome result (IsEntryAt self.old.entries (length self.old.entries - 1)) }
         ensures same_map { IfSome result (λ o. (entry_map (Occupied o)).ghost_name ≡ self.entry.ghost_name) }
         ensures unchanged { IfSome result (λ o. (entry_map (Occupied o)).now ≡ self.old) }
         ensures* rests { sem 𝓛 (RestsIfEmpty K.row V.row S.row self.entry result) }
@@ -248,7 +256,8 @@ impl<'a, K: Ord, V, S: StoreMut<K, V>> Entry<'a, K, V, S> {
     ///
     /// ```rust
     /// // days: 1 Monday, 3 Wednesday, 5 Friday
-    /// Ok(*days.entry(6).or_insert_with_key(|number| if *number > 5 { "weekend" } else { "weekday" })? == "weekend")
+    /// let kind = |number: &u32| if *number > 5 { "weekend" } else { "weekday" };
+    /// Ok(*days.entry(6).or_insert_with_key(kind)? == "weekend")
     /// ```
     pub fn or_insert_with_key<F: FnOnce(&K) -> V>(
         self,
@@ -278,9 +287,9 @@ impl<'a, K: Ord, V, S: StoreMut<K, V>> Entry<'a, K, V, S> {
     /// names.entry(1).or_made_with(alloc)?.push("Mon")?;
     /// Ok(names.get(&1).is_some_and(|list| list.len() == 2))
     /// ```
-    pub fn or_made_with(self, alloc: Global) -> Result<&'a mut V, NoRoom<(K, V)>>
+    pub fn or_made_with<A: Drop>(self, alloc: A) -> Result<&'a mut V, NoRoom<(K, V)>>
     where
-        V: MadeWith<Global>,
+        V: MadeWith<A>,
         ensures* writes_back { sem 𝓛 (EntryLends K.row V.row S.row self.entry result) }
         ensures value { IfOk result (λ slot. UnwrapsOrElse (entry_value self.entry) V.is_made_with slot.now) }
         ensures refused { EntryRefused self.entry V.is_made_with result }
@@ -326,7 +335,8 @@ impl<'a, K: Ord, V, S: StoreMut<K, V>> Entry<'a, K, V, S> {
     ///
     /// ```rust
     /// // days: 1 Monday, 3 Wednesday, 5 Friday
-    /// Ok(days.entry(2).insert_entry("Tue")?.insert("Tuesday") == "Tue" && days.entry(5).insert_entry("Fri")?.remove() == "Fri")
+    /// let is_tue = days.entry(2).insert_entry("Tue")?.insert("Tuesday") == "Tue";
+    /// Ok(is_tue && days.entry(5).insert_entry("Fri")?.remove() == "Fri")
     /// ```
     pub fn insert_entry(
         self,
@@ -422,7 +432,7 @@ impl<'a, K: Ord, V, S: StoreMut<K, V>> OccupiedEntry<'a, K, V, S> {
     where
         K: Drop,
         ensures value { entry_value (Occupied self.entry) ≡ Some result }
-        ensures removed { self.exit.0.now.pairs ≡ pairs_without (Occupied self.entry) }
+        ensures removed { self.exit.0.now.entries ≡ pairs_without (Occupied self.entry) }
         ensures room { S.keeps_memory → (entry_map (Occupied self.entry)).now.room < self.exit.0.now.room }
     {
         self.remove_entry().1
@@ -432,7 +442,7 @@ impl<'a, K: Ord, V, S: StoreMut<K, V>> OccupiedEntry<'a, K, V, S> {
     pub fn remove_entry(self) -> (K, V)
         ensures key { entry_key (Occupied self.entry) ≡ Some result.0 }
         ensures value { entry_value (Occupied self.entry) ≡ Some result.1 }
-        ensures removed { self.exit.0.now.pairs ≡ pairs_without (Occupied self.entry) }
+        ensures removed { self.exit.0.now.entries ≡ pairs_without (Occupied self.entry) }
         ensures room { S.keeps_memory → (entry_map (Occupied self.entry)).now.room < self.exit.0.now.room }
     {
         let index = self.index;

@@ -18,43 +18,44 @@ use std::marker::{Model, PhantomData};
 
 /// ```rust
 /// // days: 1 Monday, 3 Wednesday, 5 Friday
-/// let (keys, values) = (days.keys().next() == days.iter_keys().next(), days.values().next() == days.iter_values().next());
+/// let keys = days.keys().next() == days.iter_keys().next();
+/// let values = days.values().next() == days.iter_values().next();
 /// keys && values && days.keys().len() == 3 && days.iter().next_back() == Some((&5, &"Friday"))
 /// ```
 impl<'a, K: Ord + 'a, V: 'a, S: StoreIterable<'a, K, V>> LiteMap<K, V, S> {
-    /// Returns an iterator over all pairs, in the order of their keys.
+    /// Returns an iterator over all pairs, in the order of their keys. Each step takes constant time.
     pub fn iter(&'a self) -> S::KeyValueIter
-        ensures rest { S.KeyValueIter.rest result ≡ self.now.pairs }
-        ensures rising { Rising K.cmp self.now.pairs }
+        ensures rest { S.KeyValueIter.rest result ≡ self.now.entries }
+        ensures rising { Rising K.cmp self.now.entries }
         ensures runs { RunsInOrder S.KeyValueIter.next_gives (deref_pair {K = K} {X = V}) S.KeyValueIter.rest }
         // Each pair is what its key finds.
-        ensures found { All (λ p. at K.cmp self.now.pairs p.0 ≡ Some p) self.now.pairs }
+        ensures found { All (λ p. at K.cmp self.now.entries p.0 ≡ Some p) self.now.entries }
     {
         self.store.lm_iter()
     }
 
-    /// Returns an iterator over all keys, in their order.
+    /// Deprecated: use `keys`. Returns an iterator over all keys, in their order.
     #[deprecated = "use keys() instead"]
     pub fn iter_keys(&'a self) -> KeysIterWrap<'a, K, V, S::KeyValueIter>
-        ensures rest { S.KeyValueIter.rest result ≡ self.now.pairs }
-        ensures rising { Rising K.cmp self.now.pairs }
+        ensures rest { S.KeyValueIter.rest result ≡ self.now.entries }
+        ensures rising { Rising K.cmp self.now.entries }
     {
         self.keys()
     }
 
-    /// Returns an iterator over all values, in the order of their keys.
+    /// Deprecated: use `values`. Returns an iterator over all values, in the order of their keys.
     #[deprecated = "use values() instead"]
     pub fn iter_values(&'a self) -> ValuesIterWrap<'a, K, V, S::KeyValueIter>
-        ensures rest { S.KeyValueIter.rest result ≡ self.now.pairs }
-        ensures rising { Rising K.cmp self.now.pairs }
+        ensures rest { S.KeyValueIter.rest result ≡ self.now.entries }
+        ensures rising { Rising K.cmp self.now.entries }
     {
         self.values()
     }
 
-    /// Returns an iterator over all keys, in their order.
+    /// Returns an iterator over all keys, in their order. Each step takes constant time.
     pub fn keys(&'a self) -> KeysIterWrap<'a, K, V, S::KeyValueIter>
-        ensures rest { S.KeyValueIter.rest result ≡ self.now.pairs }
-        ensures rising { Rising K.cmp self.now.pairs }
+        ensures rest { S.KeyValueIter.rest result ≡ self.now.entries }
+        ensures rising { Rising K.cmp self.now.entries }
         ensures runs { KeysInOrder S.KeyValueIter.rest }
     {
         KeysIterWrap {
@@ -63,10 +64,10 @@ impl<'a, K: Ord + 'a, V: 'a, S: StoreIterable<'a, K, V>> LiteMap<K, V, S> {
         }
     }
 
-    /// Returns an iterator over all values, in the order of their keys.
+    /// Returns an iterator over all values, in the order of their keys. Each step takes constant time.
     pub fn values(&'a self) -> ValuesIterWrap<'a, K, V, S::KeyValueIter>
-        ensures rest { S.KeyValueIter.rest result ≡ self.now.pairs }
-        ensures rising { Rising K.cmp self.now.pairs }
+        ensures rest { S.KeyValueIter.rest result ≡ self.now.entries }
+        ensures rising { Rising K.cmp self.now.entries }
         ensures runs { ValuesInOrder S.KeyValueIter.rest }
     {
         ValuesIterWrap {
@@ -91,9 +92,13 @@ impl<'a, K: Ord + 'a, V: 'a, S: StoreIterable<'a, K, V>> IntoIterator for &'a Li
 
     type IntoIter = S::KeyValueIter;
 
-    ghost into_iter_gives = { λ m r. S.KeyValueIter.rest r ≡ m.now.pairs };
+    ghost into_iter_gives = { λ m r. S.KeyValueIter.rest r ≡ m.now.entries };
 
-    fn into_iter(self) -> S::KeyValueIter {
+    fn into_iter(self) -> S::KeyValueIter
+        ensures rest { S.KeyValueIter.rest result ≡ self.now.entries }
+        // Each pair is what its key finds.
+        ensures found { All (λ p. at K.cmp self.now.entries p.0 ≡ Some p) self.now.entries }
+    {
         self.iter()
     }
 }
@@ -104,7 +109,7 @@ impl<K: Ord + Drop, V: Drop, S: StoreIntoIterator<K, V>> IntoIterator for LiteMa
 
     type IntoIter = S::KeyValueIntoIter;
 
-    ghost into_iter_gives = { λ m r. S.KeyValueIntoIter.owned r ≡ m.pairs };
+    ghost into_iter_gives = { λ m r. S.KeyValueIntoIter.owned r ≡ m.entries };
 
     fn into_iter(self) -> S::KeyValueIntoIter {
         self.store.lm_into_iter()
@@ -118,7 +123,7 @@ impl<K: Ord + Drop, V: Drop, S: StoreIntoIterator<K, V>> LiteMap<K, V, S> {
     /// Ok(three_days(alloc)?.into_keys().eq([1, 3, 5]))
     /// ```
     pub fn into_keys(self) -> IntoKeys<K, V, S::KeyValueIntoIter>
-        ensures { S.KeyValueIntoIter.owned result ≡ self.pairs }
+        ensures { S.KeyValueIntoIter.owned result ≡ self.entries }
     {
         IntoKeys::new(self.into_iter())
     }
@@ -129,7 +134,7 @@ impl<K: Ord + Drop, V: Drop, S: StoreIntoIterator<K, V>> LiteMap<K, V, S> {
     /// Ok(three_days(alloc)?.into_values().eq(["Monday", "Wednesday", "Friday"]))
     /// ```
     pub fn into_values(self) -> IntoValues<K, V, S::KeyValueIntoIter>
-        ensures { S.KeyValueIntoIter.owned result ≡ self.pairs }
+        ensures { S.KeyValueIntoIter.owned result ≡ self.entries }
     {
         IntoValues::new(self.into_iter())
     }

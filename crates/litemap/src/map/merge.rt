@@ -1,10 +1,11 @@
 //! Merges maps, and compares their keys side by side: those that both have, and those that one lacks.
 ghost use Rattle.std.specs.Prelude.{◌≡◌, ◌⊎◌, ◌+◌, ◌*◌, ◌<◌, ◌≤◌, List, MatchOption, None, OnErr, OnOk, Some, [], filter, length};
-ghost use Rattle.std.specs.Prelude.{IfOk, IfSome, IsNone};
+ghost use Rattle.std.specs.Prelude.{IfOk, IfSome, IsNone, IsOk};
 ghost use Rattle.std.specs.Prelude.{IsSome, IsTrue, if◌then◌else◌, is_some, not};
 ghost use Rattle.std.specs.List.{list_all};
 ghost use Rattle.std.specs.Option.{option_or};
 ghost use Rattle.litemap_store.specs.Counts.{GoesOn, RisesByAtMost, digits};
+ghost use Rattle.litemap_store.specs.Last.{Rises};
 ghost use Rattle.litemap_store.specs.Merge.{Apart, Merge};
 ghost use Rattle.litemap_store.specs.Pairs.{Rising, above, at, value_at};
 ghost use Rattle.litemap.specs.Updates.{Displaces, KeepsPart, NoCommon, Overlays};
@@ -17,7 +18,7 @@ use super::iter::RangeIter;
 use crate::LiteMap;
 use litemap_store::merge::extend_from_store;
 use litemap_store::store::{Count, NoRoom, Store, StoreBulkMut, StoreIntoIterator};
-use std::alloc::{AllocError, Global};
+use std::alloc::AllocError;
 use std::cmp::Ordering;
 use std::mem;
 
@@ -44,19 +45,19 @@ impl<K: Ord + Drop, V: Drop, S: StoreIntoIterator<K, V> + Drop> LiteMap<K, V, S>
     /// ```
     pub fn extend_from_litemap(
         &mut self,
-        alloc: Global,
+        alloc: S::Alloc,
         other: Self,
     ) -> Result<Option<Self>, NoRoom<Self>>
         ensures merged { IsMergedInto K.cmp other self.old self.new result }
         // What a lookup finds: the other map's value if it has the key, else what it found before.
-        ensures found { OnOk result ((key : K) → value_at K.cmp self.new.pairs key
-            ≡ option_or (value_at K.cmp other.pairs key) (value_at K.cmp self.old.pairs key)) }
+        ensures found { OnOk result ((key : K) → value_at K.cmp self.new.entries key
+            ≡ option_or (value_at K.cmp other.entries key) (value_at K.cmp self.old.entries key)) }
         // The same of lookups by anything else than a key.
-        ensures overlays { OnOk result (Overlays K.cmp self.old.pairs other.pairs self.new.pairs) }
+        ensures overlays { OnOk result (Overlays K.cmp self.old.entries other.entries self.new.entries) }
         // What it finds in what is displaced: the old value if the other map has the key, else nothing.
-        ensures displaced { IfOk result (λ rest. IfSome rest (λ old. Displaces K.cmp self.old.pairs other.pairs old.pairs)) }
+        ensures displaced { IfOk result (λ rest. IfSome rest (λ old. Displaces K.cmp self.old.entries other.entries old.entries)) }
         // If nothing is displaced, no key of the other map was here.
-        ensures none_common { IfOk result (λ rest. IsNone rest → NoCommon K.cmp self.old.pairs other.pairs) }
+        ensures none_common { IfOk result (λ rest. IsNone rest → NoCommon K.cmp self.old.entries other.entries) }
     {
         self.extend_from_litemap_counted(alloc, other, &mut Count::new())
     }
@@ -64,16 +65,21 @@ impl<K: Ord + Drop, V: Drop, S: StoreIntoIterator<K, V> + Drop> LiteMap<K, V, S>
     /// `extend_from_litemap`, counting its comparisons (own).
     pub fn extend_from_litemap_counted(
         &mut self,
-        alloc: Global,
+        alloc: S::Alloc,
         other: Self,
         count: &mut Count,
     ) -> Result<Option<Self>, NoRoom<Self>>
         ensures merged { IsMergedInto K.cmp other self.old self.new result }
+        ensures found { OnOk result ((key : K) → value_at K.cmp self.new.entries key
+            ≡ option_or (value_at K.cmp other.entries key) (value_at K.cmp self.old.entries key)) }
+        ensures overlays { OnOk result (Overlays K.cmp self.old.entries other.entries self.new.entries) }
+        ensures displaced { IfOk result (λ rest. IfSome rest (λ old. Displaces K.cmp self.old.entries other.entries old.entries)) }
+        ensures none_common { IfOk result (λ rest. IsNone rest → NoCommon K.cmp self.old.entries other.entries) }
         // The comparisons: none if a map is empty, and two if all keys of one are above the other's.
-        ensures uncounted { (self.old.pairs ≡ []) ⊎ (other.pairs ≡ []) → RisesByAtMost 0 count.old count.new }
-        ensures apart { Apart K.cmp self.old.pairs other.pairs → RisesByAtMost 2 count.old count.new }
+        ensures uncounted { (self.old.entries ≡ []) ⊎ (other.entries ≡ []) → RisesByAtMost 0 count.old count.new }
+        ensures apart { Apart K.cmp self.old.entries other.entries → RisesByAtMost 2 count.old count.new }
         ensures cost { RisesByAtMost
-            (2 + length other.pairs * digits (length self.old.pairs + length other.pairs)) count.old count.new }
+            (2 + length other.entries * digits (length self.old.entries + length other.entries)) count.old count.new }
         ensures refusal { OnErr result (count.old.refusals < count.new.refusals) }
     {
         match extend_from_store(alloc, &mut self.store, other.store, count) {
@@ -93,15 +99,21 @@ impl<K: Ord + Drop, V: Drop, S: StoreIntoIterator<K, V> + Drop> LiteMap<K, V, S>
     /// days.append(alloc, &mut short)?;
     /// Ok(days.get(&5) == Some(&"Fri") && days.len() == 4 && short.is_empty())
     /// ```
-    pub fn append(&mut self, alloc: Global, other: &mut Self) -> Result<(), AllocError>
-        ensures merged { OnOk result (Merge K.cmp self.old.pairs other.old.pairs self.new.pairs) }
-        ensures emptied { OnOk result (other.new.pairs ≡ []) }
+    pub fn append(&mut self, alloc: S::Alloc, other: &mut Self) -> Result<(), AllocError>
+        ensures merged { OnOk result (Merge K.cmp self.old.entries other.old.entries self.new.entries) }
+        ensures emptied { OnOk result (other.new.entries ≡ []) }
         // What lookups find.
-        ensures found { OnOk result ((key : K) → value_at K.cmp self.new.pairs key
-            ≡ option_or (value_at K.cmp other.old.pairs key) (value_at K.cmp self.old.pairs key)) }
-        ensures overlays { OnOk result (Overlays K.cmp self.old.pairs other.old.pairs self.new.pairs) }
+        ensures found { OnOk result ((key : K) → value_at K.cmp self.new.entries key
+            ≡ option_or (value_at K.cmp other.old.entries key) (value_at K.cmp self.old.entries key)) }
+        ensures overlays { OnOk result (Overlays K.cmp self.old.entries other.old.entries self.new.entries) }
         ensures unchanged { OnErr result
-            ((self.new.pairs ≡ self.old.pairs) × (other.new.pairs ≡ other.old.pairs)) }
+            ((self.new.entries ≡ self.old.entries) × (other.new.entries ≡ other.old.entries)) }
+        // It never fails if one is empty, nor if the other's keys are all above or all below, within the room.
+        ensures succeeds { (self.old.entries ≡ []) ⊎ (other.old.entries ≡ []) → IsOk result }
+        ensures all_above { Rises K.cmp self.old.entries other.old.entries
+            → length other.old.entries ≤ self.old.room → IsOk result }
+        ensures all_below { Rises K.cmp other.old.entries self.old.entries → length other.old.entries ≤ self.old.room
+            → length self.old.entries ≤ other.old.room → IsOk result }
     {
         let taken = mem::replace(other, LiteMap::with_capacity(alloc, 0)?);
         match self.extend_from_litemap(alloc, taken) {
@@ -131,19 +143,19 @@ impl<K: Ord + Drop, V: Drop, S: StoreIntoIterator<K, V> + Drop> LiteMap<K, V, S>
     /// ```
     pub fn extend_with<F: Fn(&K, &V, &mut V)>(
         &mut self,
-        alloc: Global,
+        alloc: S::Alloc,
         other: Self,
         f: F,
     ) -> Result<Option<Self>, NoRoom<Self>>
-        requires { CallableOnCommon F.Fn f K.cmp self.old.pairs other.pairs }
-        ensures merged { (M : List (K × V)) × Combined F.Fn f K.cmp self.old.pairs other.pairs M
+        requires { CallableOnCommon F.Fn f K.cmp self.old.entries other.entries }
+        ensures merged { (M : List (K × V)) × Combined F.Fn f K.cmp self.old.entries other.entries M
             × IsMergedInto K.cmp (with_pairs other M) self.old self.new result }
         ensures combined { (combine : K → V → V → V) → Combines F.Fn f combine → IsMergedInto K.cmp
-            (with_pairs other (combined K.cmp combine self.old.pairs other.pairs)) self.old self.new result }
+            (with_pairs other (combined K.cmp combine self.old.entries other.entries)) self.old self.new result }
         // What a lookup finds: both values combined if both maps have the key, else the value of the one that has it.
         ensures found { (combine : K → V → V → V) → Combines F.Fn f combine → OnOk result ((key : K)
-            → value_at K.cmp self.new.pairs key
-            ≡ found_with combine (value_at K.cmp self.old.pairs key) (at K.cmp other.pairs key)) }
+            → value_at K.cmp self.new.entries key
+            ≡ found_with combine (value_at K.cmp self.old.entries key) (at K.cmp other.entries key)) }
     {
         self.extend_with_counted(alloc, other, f, &mut Count::new())
     }
@@ -151,16 +163,21 @@ impl<K: Ord + Drop, V: Drop, S: StoreIntoIterator<K, V> + Drop> LiteMap<K, V, S>
     /// `extend_with`, counting its comparisons (own).
     pub fn extend_with_counted<F: Fn(&K, &V, &mut V)>(
         &mut self,
-        alloc: Global,
+        alloc: S::Alloc,
         other: Self,
         f: F,
         count: &mut Count,
     ) -> Result<Option<Self>, NoRoom<Self>>
-        requires { CallableOnCommon F.Fn f K.cmp self.old.pairs other.pairs }
-        ensures merged { (M : List (K × V)) × Combined F.Fn f K.cmp self.old.pairs other.pairs M
+        requires { CallableOnCommon F.Fn f K.cmp self.old.entries other.entries }
+        ensures merged { (M : List (K × V)) × Combined F.Fn f K.cmp self.old.entries other.entries M
             × IsMergedInto K.cmp (with_pairs other M) self.old self.new result }
-        ensures cost { RisesByAtMost (2 + length other.pairs * digits (length self.old.pairs)
-            + length other.pairs * digits (length self.old.pairs + length other.pairs)) count.old count.new }
+        ensures combined { (combine : K → V → V → V) → Combines F.Fn f combine → IsMergedInto K.cmp
+            (with_pairs other (combined K.cmp combine self.old.entries other.entries)) self.old self.new result }
+        ensures found { (combine : K → V → V → V) → Combines F.Fn f combine → OnOk result ((key : K)
+            → value_at K.cmp self.new.entries key
+            ≡ found_with combine (value_at K.cmp self.old.entries key) (at K.cmp other.entries key)) }
+        ensures cost { RisesByAtMost (2 + length other.entries * digits (length self.old.entries)
+            + length other.entries * digits (length self.old.entries + length other.entries)) count.old count.new }
         ensures refusal { OnErr result (count.old.refusals < count.new.refusals) }
     {
         let mut store = other.store;
@@ -171,10 +188,10 @@ impl<K: Ord + Drop, V: Drop, S: StoreIntoIterator<K, V> + Drop> LiteMap<K, V, S>
 
     // Calls `f` on each pair of a store whose key is in the map.
     fn combine_each<F: Fn(&K, &V, &mut V)>(&self, store: &mut S, f: &F, count: &mut Count)
-        requires { CallableOnEachOf F.Fn f.now K.cmp self.now.pairs (S.pairs store.old) }
-        ensures combined { Combined F.Fn f.now K.cmp self.now.pairs (S.pairs store.old) (S.pairs store.new) }
+        requires { CallableOnEachOf F.Fn f.now K.cmp self.now.entries (S.pairs store.old) }
+        ensures combined { Combined F.Fn f.now K.cmp self.now.entries (S.pairs store.old) (S.pairs store.new) }
         ensures room { S.room store.new ≡ S.room store.old }
-        ensures cost { RisesByAtMost (length (S.pairs store.old) * digits (length self.now.pairs)) count.old count.new }
+        ensures cost { RisesByAtMost (length (S.pairs store.old) * digits (length self.now.entries)) count.old count.new }
     {
         for index in 0..store.lm_len() {
             let (key, value) = store.lm_pair_mut(index);
@@ -183,11 +200,11 @@ impl<K: Ord + Drop, V: Drop, S: StoreIntoIterator<K, V> + Drop> LiteMap<K, V, S>
     }
 
     fn combine<F: Fn(&K, &V, &mut V)>(&self, key: &K, value: &mut V, f: &F, count: &mut Count)
-        requires { (here : V) → value_at K.cmp self.now.pairs key.now ≡ Some here
+        requires { (here : V) → value_at K.cmp self.now.entries key.now ≡ Some here
             → TakesBoth F.Fn f.now key.now here value.old }
-        ensures settled { MatchOption (value_at K.cmp self.now.pairs key.now) (value.new ≡ value.old)
+        ensures settled { MatchOption (value_at K.cmp self.now.entries key.now) (value.new ≡ value.old)
             (λ here. LeavesOfBoth F.Fn f.now key.now here value.old value.new) }
-        ensures cost { RisesByAtMost (digits (length self.now.pairs)) count.old count.new }
+        ensures cost { RisesByAtMost (digits (length self.now.entries)) count.old count.new }
     {
         if let Some(here) = self.get_counted(key, count) {
             f(key, here, value);
@@ -201,9 +218,9 @@ impl<K: Ord, V, S: Store<K, V>> LiteMap<K, V, S> {
     /// It walks both maps side by side, up to the first key that the other lacks, with at most one comparison for each key of
     /// both.
     pub fn is_subset<W, T: Store<K, W>>(&self, other: &LiteMap<K, W, T>) -> bool
-        ensures all { result ≡ list_all (λ p. is_some (at K.cmp other.now.pairs p.0)) self.now.pairs }
+        ensures all { result ≡ list_all (λ p. is_some (at K.cmp other.now.entries p.0)) self.now.entries }
         ensures found { IsTrue result → (key : K)
-            → IsSome (value_at K.cmp self.now.pairs key) → IsSome (value_at K.cmp other.now.pairs key) }
+            → IsSome (value_at K.cmp self.now.entries key) → IsSome (value_at K.cmp other.now.entries key) }
     {
         self.is_subset_counted(other, &mut Count::new())
     }
@@ -214,8 +231,8 @@ impl<K: Ord, V, S: Store<K, V>> LiteMap<K, V, S> {
         other: &LiteMap<K, W, T>,
         count: &mut Count,
     ) -> bool
-        ensures all { result ≡ list_all (λ p. is_some (at K.cmp other.now.pairs p.0)) self.now.pairs }
-        ensures cost { RisesByAtMost (length self.now.pairs + length other.now.pairs) count.old count.new }
+        ensures all { result ≡ list_all (λ p. is_some (at K.cmp other.now.entries p.0)) self.now.entries }
+        ensures cost { RisesByAtMost (length self.now.entries + length other.now.entries) count.old count.new }
     {
         let mut rest = RangeIter::all(&other.store);
         let mut keys = RangeIter::all(&self.store);
@@ -244,12 +261,12 @@ impl<K: Ord + Drop, V: Drop, S: StoreBulkMut<K, V>> LiteMap<K, V, S> {
     /// Ok(is_left && days.is_empty())
     /// ```
     pub fn keep_keys_of<W, T: Store<K, W>>(&mut self, other: &LiteMap<K, W, T>)
-        ensures pairs { self.new.pairs ≡ filter (λ p. is_some (at K.cmp other.now.pairs p.0)) self.old.pairs }
+        ensures pairs { self.new.entries ≡ filter (λ p. is_some (at K.cmp other.now.entries p.0)) self.old.entries }
         // What a lookup finds: what it found before, if the other map has the key.
-        ensures found { (key : K) → value_at K.cmp self.new.pairs key
-            ≡ if is_some (at K.cmp other.now.pairs key) then value_at K.cmp self.old.pairs key else None }
-        ensures stays { KeepsPart (λ p. is_some (at K.cmp other.now.pairs p.0)) self.old.pairs self.new.pairs }
-        ensures room { S.keeps_memory → self.old.room + length self.old.pairs ≤ self.new.room + length self.new.pairs }
+        ensures found { (key : K) → value_at K.cmp self.new.entries key
+            ≡ if is_some (at K.cmp other.now.entries key) then value_at K.cmp self.old.entries key else None }
+        ensures stays { KeepsPart (λ p. is_some (at K.cmp other.now.entries p.0)) self.old.entries self.new.entries }
+        ensures room { S.keeps_memory → self.old.room + length self.old.entries ≤ self.new.room + length self.new.entries }
     {
         let mut rest = RangeIter::all(&other.store);
         self.store.lm_retain(
@@ -263,12 +280,12 @@ impl<K: Ord + Drop, V: Drop, S: StoreBulkMut<K, V>> LiteMap<K, V, S> {
     /// Drops the pairs whose keys another map has, and keeps the others (own). It compares and leaves room as `keep_keys_of`
     /// does.
     pub fn remove_keys_of<W, T: Store<K, W>>(&mut self, other: &LiteMap<K, W, T>)
-        ensures pairs { self.new.pairs ≡ filter (λ p. not (is_some (at K.cmp other.now.pairs p.0))) self.old.pairs }
+        ensures pairs { self.new.entries ≡ filter (λ p. not (is_some (at K.cmp other.now.entries p.0))) self.old.entries }
         // What a lookup finds: what it found before, if the other map lacks the key.
-        ensures found { (key : K) → value_at K.cmp self.new.pairs key
-            ≡ if is_some (at K.cmp other.now.pairs key) then None else value_at K.cmp self.old.pairs key }
-        ensures stays { KeepsPart (λ p. not (is_some (at K.cmp other.now.pairs p.0))) self.old.pairs self.new.pairs }
-        ensures room { S.keeps_memory → self.old.room + length self.old.pairs ≤ self.new.room + length self.new.pairs }
+        ensures found { (key : K) → value_at K.cmp self.new.entries key
+            ≡ if is_some (at K.cmp other.now.entries key) then None else value_at K.cmp self.old.entries key }
+        ensures stays { KeepsPart (λ p. not (is_some (at K.cmp other.now.entries p.0))) self.old.entries self.new.entries }
+        ensures room { S.keeps_memory → self.old.room + length self.old.entries ≤ self.new.room + length self.new.entries }
     {
         let mut rest = RangeIter::all(&other.store);
         self.store.lm_retain(

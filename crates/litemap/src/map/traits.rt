@@ -1,13 +1,12 @@
 //! The traits of `std` that a collection has: it is cloned, collected, extended, indexed and taken. Each but `Clone` forwards
 //! to a call of the map. `Extend`, `Clone` and `Emptied` are given no allocator, and take the store's (`StoreAlloc`).
-ghost use Rattle.std.specs.Prelude.{◌≡◌, ◌++◌, [], IsSome, OnErr, Some};
+ghost use Rattle.std.specs.Prelude.{◌≡◌, [], IsSome, OnErr, Some};
 ghost use Rattle.std.specs.Borrow.{sem};
 ghost use Rattle.std.specs.Iterator.{ExtendsWithItems, IsFiniteIterable};
 ghost use Rattle.std.specs.List.{IsAmong};
 ghost use Rattle.std.specs.Map.{values_of};
-ghost use Rattle.litemap_store.specs.Bulk.{GivesSome};
+ghost use Rattle.litemap_store.specs.Bulk.{Extends, GivesSome};
 ghost use Rattle.litemap_store.specs.Clones.{PairsBecame};
-ghost use Rattle.litemap_store.specs.Last.{Last};
 ghost use Rattle.litemap_store.specs.Pairs.{at, value_at, write};
 ghost use Rattle.litemap.specs.Lends.{LendsKey};
 ghost use Rattle.litemap.specs.Updates.{Finds, KeysStay};
@@ -17,7 +16,7 @@ use litemap_store::Query;
 use litemap_store::store::{
     Store, StoreAlloc, StoreBulkMut, StoreConstEmpty, StoreFromIterable, StoreMut,
 };
-use std::alloc::{AllocError, Global};
+use std::alloc::AllocError;
 use std::default::Emptied;
 use std::ops::{Index, IndexMut};
 
@@ -25,9 +24,9 @@ use std::ops::{Index, IndexMut};
 /// it compares each with the one before it. It never fails for an empty map.
 impl<K: Ord + Clone, V: Clone, S: StoreMut<K, V> + StoreAlloc<K, V> + Drop> Clone
     for LiteMap<K, V, S> {
-    ghost is_clone = { λ m n. PairsBecame K.is_clone V.is_clone m.pairs n.pairs };
+    ghost is_clone = { λ m n. PairsBecame K.is_clone V.is_clone m.entries n.entries };
 
-    ghost is_infallible = { λ m. m.pairs ≡ [] };
+    ghost is_infallible = { λ m. m.entries ≡ [] };
 
     fn clone(&self) -> Result<Self, AllocError> {
         let store = self.store.lm_try_clone(self.store.lm_alloc())?;
@@ -40,12 +39,12 @@ impl<K: Ord + Clone, V: Clone, S: StoreMut<K, V> + StoreAlloc<K, V> + Drop> Clon
 
 /// The map of the last pair of each key.
 impl<K: Ord + Drop, V: Drop, S: StoreFromIterable<K, V>> FromIterator<(K, V)> for LiteMap<K, V, S> {
-    type Alloc = Global;
+    type Alloc = S::Alloc;
 
-    ghost from_iter_gives = { λ items m. Last K.cmp items m.pairs };
+    ghost from_iter_gives = { λ items m. Extends K.cmp [] items m.entries };
 
     fn from_iter<I: IntoIterator<Item = (K, V)>>(
-        alloc: Global,
+        alloc: S::Alloc,
         iter: I,
     ) -> Result<Self, AllocError> {
         LiteMap::from_iter(alloc, iter)
@@ -55,13 +54,13 @@ impl<K: Ord + Drop, V: Drop, S: StoreFromIterable<K, V>> FromIterator<(K, V)> fo
 /// Extends by the last pair of each key. If it fails, the map keeps its pairs.
 impl<K: Ord + Drop, V: Drop, S: StoreBulkMut<K, V> + StoreAlloc<K, V>> Extend<(K, V)>
     for LiteMap<K, V, S> {
-    ghost extend_gives = { λ m items n. Last K.cmp (m.pairs ++ items) n.pairs };
+    ghost extend_gives = { λ m items n. Extends K.cmp m.entries items n.entries };
 
     fn extend<I: IntoIterator<Item = (K, V)>>(&mut self, iter: I) -> Result<(), AllocError>
         requires { IsFiniteIterable I.into_iter_gives I.IntoIter.can_next I.IntoIter.remaining iter }
-        ensures ran { ExtendsWithItems I.into_iter_gives I.IntoIter.next_gives (λ m items n. Last K.cmp (m.pairs ++ items) n.pairs)
+        ensures ran { ExtendsWithItems I.into_iter_gives I.IntoIter.next_gives (λ m items n. Extends K.cmp m.entries items n.entries)
             iter self.old self.new result }
-        ensures unchanged { OnErr result (self.new.pairs ≡ self.old.pairs) }
+        ensures unchanged { OnErr result (self.new.entries ≡ self.old.entries) }
         ensures refused_some { S.fails_for_pairs_only
             → OnErr result (GivesSome I.into_iter_gives I.IntoIter.next_gives iter) }
     {
@@ -73,9 +72,9 @@ impl<K: Ord + Drop, V: Drop, S: StoreBulkMut<K, V> + StoreAlloc<K, V>> Extend<(K
 impl<K: Ord, V, S: Store<K, V>, Q: Query<K>> Index<Q> for LiteMap<K, V, S> {
     type Output = V;
 
-    ghost can_index = { λ m key. IsSome (at Q.order m.pairs (Q.sought key)) };
+    ghost can_index = { λ m key. IsSome (at Q.order m.entries (Q.sought key)) };
 
-    ghost index_gives = { λ m key value. Some value ≡ value_at Q.order m.pairs (Q.sought key) };
+    ghost index_gives = { λ m key value. Some value ≡ value_at Q.order m.entries (Q.sought key) };
 
     fn index(&self, key: Q) -> &V {
         self.get(key).unwrap()
@@ -84,22 +83,22 @@ impl<K: Ord, V, S: Store<K, V>, Q: Query<K>> Index<Q> for LiteMap<K, V, S> {
 
 impl<K: Ord, V, S: StoreMut<K, V>, Q: Query<K>> IndexMut<Q> for LiteMap<K, V, S> {
     fn index_mut(&mut self, key: Q) -> &mut V
-        requires { IsSome (at Q.order self.old.pairs (Q.sought key)) }
+        requires { IsSome (at Q.order self.old.entries (Q.sought key)) }
         ensures* writes_back { sem 𝓛
             (LendsKey K.row V.row S.row K.Ord S.pairs S.room self.entry Q.order (Q.sought key) result) }
-        ensures value { Some result.now ≡ value_at Q.order self.old.pairs (Q.sought key) }
-        ensures member { IsAmong (values_of self.old.pairs) result.now }
-        ensures updates { (v : V) → Finds Q.order (Q.sought key) (Some v) self.old.pairs
-            (write Q.order self.old.pairs (Q.sought key) v) }
-        ensures others { (v : V) → KeysStay K.cmp Q.order (Q.sought key) self.old.pairs
-            (write Q.order self.old.pairs (Q.sought key) v) }
+        ensures value { Some result.now ≡ value_at Q.order self.old.entries (Q.sought key) }
+        ensures member { IsAmong (values_of self.old.entries) result.now }
+        ensures updates { (v : V) → Finds Q.order (Q.sought key) (Some v) self.old.entries
+            (write Q.order self.old.entries (Q.sought key) v) }
+        ensures others { (v : V) → KeysStay K.cmp Q.order (Q.sought key) self.old.entries
+            (write Q.order self.old.entries (Q.sought key) v) }
     {
         self.index_mut(key)
     }
 }
 
 impl<K: Ord, V, S: StoreConstEmpty<K, V> + StoreAlloc<K, V>> Emptied for LiteMap<K, V, S> {
-    ghost is_emptied = { λ m. m.pairs ≡ [] };
+    ghost is_emptied = { λ m. m.entries ≡ [] };
 
     fn emptied(like: &Self) -> Result<Self, AllocError> {
         Ok(LiteMap::new(like.store.lm_alloc()))

@@ -1,9 +1,12 @@
 -- What is made of pairs that are passed one by one: lemmas for the proofs of callers.
 --     given_by_owned      what an iterator that owns a list yields
 --     rebuilt      no pairs, extended by an ascending list, are that list
-use Rattle.litemap_store.proofs.Names.{[], ◌∙◌, ◌≡◌, ap, Drains, Gives, IsGathered, IsTotalOrder, Last, length, List, map-id, None}
+--     extends, gathered      what the last pairs of old and given ones find, and when they stay
+use Rattle.litemap_store.proofs.Names.{[], ◌++◌, ◌∙◌, ◌≡◌, ap, Drains, Gives, IsGathered, IsTotalOrder, Last, length, List, map-id, None}
 use Rattle.litemap_store.proofs.Names.{Option, Ordering, Rising, Some, subst, sym, YieldsFirst}
 use Rattle.std.proofs.iter.Yields.{gives_Drains, listed}
+use Rattle.litemap_store.proofs.Callers.LastLookups.{value_at-Last_of_more}
+use Rattle.litemap_store.specs.Bulk.{Extends}
 use Rattle.litemap_store.proofs.Last.Pairs.{Last-rising, Last-unique}
 
 module _ {T X : Type 0} (steps : T → Option X → T → Type 0) (owned : T → List X)
@@ -20,3 +23,15 @@ module _ {U T K V : Type 0} {cmp : K → K → Ordering} (o : IsTotalOrder cmp) 
   rebuilt u new r e =
       let given : e.given ≡ pairs u = given_by_owned steps owned first e.gives.0 e.given e.gives.2 ∙ shown u e.gives.0 e.gives.1 in
       Last-unique cmp o (pairs u) new (pairs u) (subst (λ J. Last cmp J new) given e.last) (Last-rising cmp (pairs u) r)
+
+module _ {K V : Type 0} {cmp : K → K → Ordering} (o : IsTotalOrder cmp) (old new : List (K × V)) (r : Rising cmp old) where
+  pub extends : (given : List (K × V)) → Last cmp (old ++ given) new → Extends cmp old given new
+  extends given last = record {
+    last = last;
+    found = value_at-Last_of_more o old given new r last;
+    stays = λ rises. Last-unique cmp o (old ++ given) new (old ++ given) last (Last-rising cmp (old ++ given) rises);
+  }
+
+  pub gathered : (AreGiven : List (K × V) → Type 0) (given : List (K × V)) → AreGiven given → Last cmp (old ++ given) new → IsGathered cmp AreGiven old new
+  gathered AreGiven given gives last =
+      let e = extends given last in record { given = given; gives = gives; last = last; found = e.found; stays = e.stays }

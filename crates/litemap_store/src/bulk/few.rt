@@ -7,6 +7,7 @@ ghost use Rattle.litemap_store.specs.Steps.{IsPutIn};
 use crate::searches::{binary_digits, search, walk_is_cheaper};
 use crate::sorted::{is_rising, lies_below};
 use crate::store::{Count, SliceStore};
+use std::alloc::Allocator;
 
 // The most new pairs that are inserted one by one. Each moves the later ones at once, so these moves take less time than a merge.
 const FEW_PAIRS: usize = 16;
@@ -25,7 +26,11 @@ pub fn is_few(old: usize, given: usize) -> bool
 /// Puts the pairs from an index on, which are few, among those before, whose keys ascend: of each key the last stays. If not all
 /// ascend, it inserts pair by pair, one search each. Pairs that they replace are swapped to the end, and dropped last. It takes
 /// no memory.
-pub fn settle_few<K: Ord + Drop, V: Drop>(store: &mut Vec<(K, V)>, from: usize, count: &mut Count)
+pub fn settle_few<K: Ord + Drop, V: Drop, A: Allocator>(
+    store: &mut Vec<(K, V), A>,
+    from: usize,
+    count: &mut Count,
+)
     requires from { from ≤ vec_len store.old }
     requires rising { Rising K.cmp (take from store.old.items) }
     requires few { (vec_len store.old - from) * digits (vec_len store.old) ≤ vec_len store.old }

@@ -6,7 +6,6 @@ ghost use Rattle.litemap_store.specs.Last.{Last};
 use crate::growth::{Refused, sum, with_capacity};
 use crate::store::{Count, Store, StoreIntoIterator};
 use crate::walk::{Choice, walk};
-use std::alloc::Global;
 use std::mem;
 
 // The new pair stays, and the old one is dropped.
@@ -37,9 +36,9 @@ impl<K: Drop, V: Drop> Choice<K, V> for NewPair {
 /// vector in which they were gathered, with up to twice their number), or up to five times if they are 2 to 512; a lone one takes
 /// 8 there. A vector gathers them after its own pairs, so its block may have grown to twice both, below 512 pairs to four times.
 pub fn merge<K: Ord + Drop, V: Drop, S: StoreIntoIterator<K, V> + Drop>(
-    alloc: Global,
+    alloc: S::Alloc,
     store: &mut S,
-    pairs: &mut Vec<(K, V)>,
+    pairs: &mut Vec<(K, V), S::Alloc>,
     count: &mut Count,
 ) -> Result<(), Refused>
     requires store { Rising K.cmp (S.pairs store.old) }

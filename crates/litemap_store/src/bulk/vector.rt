@@ -9,14 +9,14 @@ use crate::bulk::merge::merge;
 use crate::growth::{Refused, reserve, split_off};
 use crate::sorted::{keep_rising, lies_below};
 use crate::store::{Count, SliceStore};
-use std::alloc::Global;
+use std::alloc::Allocator;
 use std::mem;
 
 /// Puts the pairs from an index on among those before, whose keys ascend: of each key the last stays. On an error these pairs are
 /// dropped.
-pub fn settle<K: Ord + Drop, V: Drop>(
-    alloc: Global,
-    store: &mut Vec<(K, V)>,
+pub fn settle<K: Ord + Drop, V: Drop, A: Allocator + Copy>(
+    alloc: A,
+    store: &mut Vec<(K, V), A>,
     from: usize,
     count: &mut Count,
 ) -> Result<(), Refused>
@@ -52,10 +52,10 @@ pub fn settle<K: Ord + Drop, V: Drop>(
 
 /// Puts the pairs of a vector in, which is left empty: of each key the last pair stays. If they ascend and come after the last
 /// old key, they are appended in one move; if there is no old one either, it never fails.
-pub fn put_in_vec<K: Ord + Drop, V: Drop>(
-    alloc: Global,
-    store: &mut Vec<(K, V)>,
-    pairs: &mut Vec<(K, V)>,
+pub fn put_in_vec<K: Ord + Drop, V: Drop, A: Allocator + Copy>(
+    alloc: A,
+    store: &mut Vec<(K, V), A>,
+    pairs: &mut Vec<(K, V), A>,
     count: &mut Count,
 ) -> Result<(), Refused>
     requires { Rising K.cmp store.old.items }
@@ -83,7 +83,10 @@ pub fn put_in_vec<K: Ord + Drop, V: Drop>(
 }
 
 // Appends items in one move. If there are none, and the capacity is less than the new ones' number, their vector replaces it.
-fn append_in_vec<K, V>(store: &mut Vec<(K, V)>, items: &mut Vec<(K, V)>) -> Result<(), Refused>
+fn append_in_vec<K, V, A: Allocator + Copy>(
+    store: &mut Vec<(K, V), A>,
+    items: &mut Vec<(K, V), A>,
+) -> Result<(), Refused>
     ensures appended { OnOk result (store.new.items ≡ store.old.items ++ items.old.items) }
     ensures unchanged { OnErr result (store.new.items ≡ store.old.items) }
     ensures succeeds { (store.old.items ≡ []) ⊎ (length items.old.items ≤ vec_room store.old) → IsOk result }

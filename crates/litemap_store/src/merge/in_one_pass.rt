@@ -6,14 +6,14 @@ ghost use Rattle.litemap_store.specs.{Merges, RisesByAtMost, Rising, above, at, 
 use crate::reserved::{put_up, room_for, take_from, take_last, unless_empty};
 use crate::searches::search;
 use crate::store::{Count, NoRoom, Store, StoreMut};
-use std::alloc::Global;
+use std::alloc::Allocator;
 
 /// Merges a store's pairs into another's, each by one search, and returns what is displaced.
 ///
 /// All capacity is taken first: a side vector and a fresh store for the pairs of both, and the same for what is displaced.
 /// Each pair then moves into a side vector and from there into its store, so each moves a constant number of times.
 pub fn merge_in_one_pass<K: Ord + Drop, V: Drop, S: StoreMut<K, V> + Drop>(
-    alloc: Global,
+    alloc: S::Alloc,
     store: &mut S,
     mut other: S,
     total: usize,
@@ -47,12 +47,12 @@ pub fn merge_in_one_pass<K: Ord + Drop, V: Drop, S: StoreMut<K, V> + Drop>(
 
 // Takes the pairs above a key aside, and then the new pair: if an equal key is there, that key with the new value, which
 // displaces the old one.
-fn take_above<K: Ord + Drop, V: Drop, S: StoreMut<K, V>>(
+fn take_above<K: Ord + Drop, V: Drop, S: StoreMut<K, V>, A: Allocator>(
     store: &mut S,
     key: K,
     value: V,
-    side: &mut Vec<(K, V)>,
-    displaced: &mut Vec<(K, V)>,
+    side: &mut Vec<(K, V), A>,
+    displaced: &mut Vec<(K, V), A>,
     count: &mut Count,
 )
     requires store { Rising K.cmp (S.pairs store.old) }

@@ -7,14 +7,13 @@ use crate::growth::{reserve, with_capacity};
 use crate::reserved::{push_reserved, unless_empty};
 use crate::searches::search;
 use crate::store::{Count, NoRoom, Store, StoreIntoIterator, StoreMut};
-use std::alloc::Global;
 use std::mem;
 
 /// Merges a store's pairs into another's, each by one search, and returns what is displaced. All capacity is taken first.
 ///
 /// A pair that falls between others moves those after it, so the moves are up to the product of the two lengths.
 pub fn merge_one_by_one<K: Ord + Drop, V: Drop, S: StoreIntoIterator<K, V> + Drop>(
-    alloc: Global,
+    alloc: S::Alloc,
     store: &mut S,
     other: S,
     count: &mut Count,

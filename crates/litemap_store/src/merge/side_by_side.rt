@@ -6,7 +6,6 @@ use crate::growth::with_capacity;
 use crate::reserved::{push_reserved, unless_empty};
 use crate::store::{Count, NoRoom, Store, StoreIntoIterator, StoreMut};
 use crate::walk::{Choice, walk};
-use std::alloc::Global;
 use std::mem;
 
 // The old key stays, with the new value; the new key with the old value is displaced into a store.
@@ -37,7 +36,7 @@ impl<K: Drop, V: Drop, S: StoreMut<K, V>> Choice<K, V> for Overlay<S> {
 /// All capacity is taken first: a fresh store for the pairs of both, which becomes the store, and one for what is displaced. Each
 /// pair then moves a constant number of times.
 pub fn merge_side_by_side<K: Ord + Drop, V: Drop, S: StoreIntoIterator<K, V> + Drop>(
-    alloc: Global,
+    alloc: S::Alloc,
     store: &mut S,
     other: S,
     total: usize,

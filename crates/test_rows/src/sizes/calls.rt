@@ -35,7 +35,7 @@ pub type Number = Result<u64, AllocError>;
 const BEFORE: u32 = 10_000;
 
 /// Inserts the keys of the map, each with its number as its value.
-pub fn fill<K: Made, V: Made, S: StoreBulkMut<K, V>>(
+pub fn fill<K: Made, V: Made, S: StoreBulkMut<K, V, Alloc = Global>>(
     call: &Call<'_>,
     map: &mut LiteMap<K, V, S>,
 ) -> Result<(), AllocError> {
@@ -60,7 +60,7 @@ pub fn given<K: Made, V: Made>(call: &Call<'_>) -> Result<Given<K, V>, AllocErro
 }
 
 /// Merges the map of the given pairs in: how many are left.
-pub fn merge<K: Made, V: Made, S: StoreBulkMut<K, V> + StoreIntoIterator<K, V>>(
+pub fn merge<K: Made, V: Made, S: StoreBulkMut<K, V, Alloc = Global> + StoreIntoIterator<K, V>>(
     call: &Call<'_>,
     map: &mut LiteMap<K, V, S>,
     given: Given<K, V>,
@@ -79,7 +79,7 @@ pub fn renew<K, V, S>(call: &Call<'_>, map: &mut LiteMap<K, V, S>, given: Given<
 where
     K: Made,
     V: Made,
-    S: StoreBulkMut<K, V> + StoreFromIterable<K, V>,
+    S: StoreBulkMut<K, V, Alloc = Global> + StoreFromIterable<K, V>,
 {
     *map = match call.name {
         "from_vec" => LiteMap::from_vec(call.alloc, given)?,
@@ -89,7 +89,7 @@ where
 }
 
 /// Extends the map by the given pairs.
-pub fn extend<K: Made, V: Made, S: StoreBulkMut<K, V>>(
+pub fn extend<K: Made, V: Made, S: StoreBulkMut<K, V, Alloc = Global>>(
     call: &Call<'_>,
     map: &mut LiteMap<K, V, S>,
     given: Given<K, V>,
@@ -102,7 +102,7 @@ pub fn extend<K: Made, V: Made, S: StoreBulkMut<K, V>>(
 }
 
 /// Splits the map at the first given key: what goes.
-pub fn split<K: Made, V: Made, S: StoreBulkMut<K, V>>(
+pub fn split<K: Made, V: Made, S: StoreBulkMut<K, V, Alloc = Global>>(
     call: &Call<'_>,
     map: &mut LiteMap<K, V, S>,
     given: Given<K, V>,
@@ -114,7 +114,7 @@ pub fn split<K: Made, V: Made, S: StoreBulkMut<K, V>>(
 }
 
 /// Renames the first given key to the second one: whether it was there.
-pub fn rename<K: Made, V: Made, S: StoreBulkMut<K, V> + KeepsMemory<K, V>>(
+pub fn rename<K: Made, V: Made, S: StoreBulkMut<K, V, Alloc = Global> + KeepsMemory<K, V>>(
     map: &mut LiteMap<K, V, S>,
     given: Given<K, V>,
 ) -> Number {
@@ -129,7 +129,7 @@ pub fn rename<K: Made, V: Made, S: StoreBulkMut<K, V> + KeepsMemory<K, V>>(
 }
 
 /// Keeps the keys below the first number of the call.
-pub fn retain<K: Made, V: Made, S: StoreBulkMut<K, V>>(
+pub fn retain<K: Made, V: Made, S: StoreBulkMut<K, V, Alloc = Global>>(
     call: &Call<'_>,
     map: &mut LiteMap<K, V, S>,
 ) -> Number {
@@ -138,7 +138,7 @@ pub fn retain<K: Made, V: Made, S: StoreBulkMut<K, V>>(
 }
 
 /// Reserves room for as many pairs as the first number of the call says.
-pub fn reserve<K: Made, V: Made, S: StoreBulkMut<K, V>>(
+pub fn reserve<K: Made, V: Made, S: StoreBulkMut<K, V, Alloc = Global>>(
     call: &Call<'_>,
     map: &mut LiteMap<K, V, S>,
 ) -> Number {
@@ -151,7 +151,7 @@ pub fn each<K, V, S>(call: &Call<'_>, map: &mut LiteMap<K, V, S>, given: Given<K
 where
     K: Made,
     V: Made,
-    S: StoreBulkMut<K, V>,
+    S: StoreBulkMut<K, V, Alloc = Global>,
 {
     let mut sum = 0u64;
     for (key, value) in given {
@@ -161,7 +161,7 @@ where
 }
 
 // A call of one pair.
-fn of_pair<K: Made, V: Made, S: StoreBulkMut<K, V>>(
+fn of_pair<K: Made, V: Made, S: StoreBulkMut<K, V, Alloc = Global>>(
     call: &Call<'_>,
     map: &mut LiteMap<K, V, S>,
     key: K,
@@ -177,7 +177,7 @@ fn of_pair<K: Made, V: Made, S: StoreBulkMut<K, V>>(
 }
 
 // A call of the entry of a key.
-fn at_entry<K: Made, V: Made, S: StoreBulkMut<K, V>>(
+fn at_entry<K: Made, V: Made, S: StoreBulkMut<K, V, Alloc = Global>>(
     call: &Call<'_>,
     map: &mut LiteMap<K, V, S>,
     key: K,

@@ -5,13 +5,13 @@ use crate::sizes::sums;
 use litemap::store::{Store, StoreBulkMut};
 use litemap::{LiteMap, VecMap};
 use litemap_columns::ColumnStore;
-use std::alloc::AllocError;
+use std::alloc::{AllocError, Global};
 
 // A map over two columns.
 type Columns<K, V> = LiteMap<K, V, ColumnStore<K, V>>;
 
 /// Makes such a call, if the name is one: the sum of the pairs of the other map.
-pub fn copy<K: Made, V: Made, S: StoreBulkMut<K, V>>(
+pub fn copy<K: Made, V: Made, S: StoreBulkMut<K, V, Alloc = Global>>(
     call: &Call<'_>,
     map: &LiteMap<K, V, S>,
 ) -> Option<Result<u64, AllocError>> {

@@ -2,10 +2,11 @@
 use crate::sizes::made::Made;
 use litemap::LiteMap;
 use litemap::store::StoreBulkMut;
+use std::alloc::Global;
 use std::ops::Bound;
 
 /// What a lookup tells of a key, or 0.
-pub fn look<K: Made, V: Made, S: StoreBulkMut<K, V>>(
+pub fn look<K: Made, V: Made, S: StoreBulkMut<K, V, Alloc = Global>>(
     name: &str,
     map: &mut LiteMap<K, V, S>,
     key: &K,
@@ -27,7 +28,10 @@ pub fn look<K: Made, V: Made, S: StoreBulkMut<K, V>>(
 }
 
 // The indices between bounds of each kind.
-fn ranges<K: Made, V: Made, S: StoreBulkMut<K, V>>(map: &LiteMap<K, V, S>, key: &K) -> usize {
+fn ranges<K: Made, V: Made, S: StoreBulkMut<K, V, Alloc = Global>>(
+    map: &LiteMap<K, V, S>,
+    key: &K,
+) -> usize {
     let mut sum = 0usize;
     for kinds in 0..9u32 {
         let indices = map.index_range(bound(kinds / 3, key), bound(kinds % 3, key));

@@ -23,4 +23,4 @@ one_number m n e = cc
 pub returns : goal.returns
 returns c =
     let same = c.one_reading.ensures _ _ _ c.in-Ok-from_json.ensures.read c.in-Ok.ensures.reads_back in
-    same_pairs json_of (λ n. number (unsigned n)) one_level one_number _ c.args.limits.now.pairs same
+    same_pairs json_of (λ n. number (unsigned n)) one_level one_number _ c.args.limits.now.entries same

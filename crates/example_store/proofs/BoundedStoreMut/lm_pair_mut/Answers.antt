@@ -14,7 +14,7 @@ returns g c =
       (
         refl,
         λ w. rw (← c.self.view_is)
-            (sym (ap (λ o. record { pairs = option_map_or (λ p. slice_set items.items c.args.index (p.0, w)) o items.items; room = room }) at)),
+            (sym (ap (λ o. record { entries = option_map_or (λ p. slice_set items.items c.args.index (p.0, w)) o items.items; room = room }) at)),
       ),
       record { writes_back = tt; pair = rw (← c.self.view_is) at },
     )

@@ -8,5 +8,5 @@ use denote.Ref.{Bor}
 -- the last value of a name is found
 pub returns-clause-last : goal.returns-clause-last
 returns-clause-last c =
-    IfOk-weaker c.read_pairs.result _ _ (λ headers r. value_at-read _ _ headers.pairs (λ L h. h) r (on_texts (λ (a : Bor (List ℕ)). a.now)))
+    IfOk-weaker c.read_pairs.result _ _ (λ headers r. value_at-read _ _ headers.entries (λ L h. h) r (on_texts (λ (a : Bor (List ℕ)). a.now)))
     c.read_pairs.ensures.read

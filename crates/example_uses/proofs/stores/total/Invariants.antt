@@ -6,4 +6,4 @@ abbrev pub invariant-loop-key : goal.invariant-loop-key
 invariant-loop-key g l =
     (goal.iterator-loop-key g).can_next l._key-iterator ×
     (goal.iterator-loop-key g).is_finite l._key-iterator ×
-    (l.total + sum (values_of (g.S.KeyValueIter.PairIter.rest l._key-iterator)) ≡ sum (values_of l.fn.map.pairs))
+    (l.total + sum (values_of (g.S.KeyValueIter.PairIter.rest l._key-iterator)) ≡ sum (values_of l.fn.map.entries))

@@ -10,4 +10,4 @@ returns-clause-added c = λ i.
     let leaves = w.leaves in
     let shows = w.shows in
     search (rules, called, leaves, shows)) i in
-    ap (λ o. unwrap_or o 0) found ∙ number-found (value_at nat_cmp c.args.sum.now.pairs i) (at nat_cmp c.args.other.pairs i)
+    ap (λ o. unwrap_or o 0) found ∙ number-found (value_at nat_cmp c.args.sum.now.entries i) (at nat_cmp c.args.other.entries i)

@@ -7,7 +7,7 @@ use Rattle.litemap_json.proofs.text.array_text.Goals as goal
 
 pub loop-place-preserved : goal.loop-place-preserved
 loop-place-preserved g c =
-    let L = c.args.map.now.pairs in
+    let L = c.args.map.now.entries in
     let x : g.row.K.Denot × g.row.V.Denot = (c.pair_at.result.0.now, c.pair_at.result.1.now) in
     let found = at_place L c.loop-place.place x c.pair_at.ensures in (
       c.write_two.ensures.before ∙ c.loop-place.invariant.0,
@@ -17,7 +17,7 @@ loop-place-preserved g c =
 
 pub returns : goal.returns
 returns g c =
-    let L = c.args.map.now.pairs in
+    let L = c.args.map.now.entries in
     let w = rows_end g.K.JsonKey.text g.K.JsonItem.json g.V.JsonItem.json L c.loop-place.place c.loop-place.out.tokens c.end_array.new.self.tokens
     (omega arith) c.in_ok-end_array.ensures.ok c.loop-place.invariant.1 in
     text_of_tree (array (rows g.K.JsonKey.text g.K.JsonItem.json g.V.JsonItem.json L)) c.end_array.new.self.tokens

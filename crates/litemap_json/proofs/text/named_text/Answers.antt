@@ -7,7 +7,7 @@ use Rattle.litemap_json.proofs.text.named_text.Goals as goal
 
 pub loop-place-preserved : goal.loop-place-preserved
 loop-place-preserved g c =
-    let M = c.args.items.now.pairs in
+    let M = c.args.items.now.entries in
     let found = at_place M c.loop-place.place _ c.pair_at.ensures in (
       c.write_member.ensures.before ∙ c.loop-place.invariant.0,
       named_more g.N.Name.bytes (λ r. g.V.JsonItem.json r.now) M c.loop-place.place _ c.loop-place.out.tokens c.write_member.new.out.tokens found.0 found.1
@@ -16,7 +16,7 @@ loop-place-preserved g c =
 
 pub returns : goal.returns
 returns g c =
-    let M = c.args.items.now.pairs in
+    let M = c.args.items.now.entries in
     let w = named_end g.N.Name.bytes (λ r. g.V.JsonItem.json r.now) M c.loop-place.place c.loop-place.out.tokens c.end_object.new.self.tokens
     (omega arith) c.in_ok-end_object.ensures.ok c.loop-place.invariant.1 in
     text_of_tree (object (named g.N.Name.bytes (λ r. g.V.JsonItem.json r.now) M)) c.end_object.new.self.tokens

@@ -6,17 +6,17 @@ use Rattle.litemap_json.proofs.text.object_text.Goals as goal
 pub loop-place-init : goal.loop-place-init
 loop-place-init g c = (
   c.begin_object.ensures.room.0 ∙ c.in_ok-out.ensures.0,
-  rw (c.in_ok-begin_object.ensures.ok, c.in_ok-out.ensures.1) (pairs_none g.K.JsonKey.text g.K.JsonItem.json g.V.JsonItem.json c.args.map.now.pairs _),
+  rw (c.in_ok-begin_object.ensures.ok, c.in_ok-out.ensures.1) (pairs_none g.K.JsonKey.text g.K.JsonItem.json g.V.JsonItem.json c.args.map.now.entries _),
 )
 
 pub returns-in_default-clause-error : goal.returns-in_default-clause-error
 returns-in_default-clause-error g c =
-    λ _. made_stop g.K.JsonKey.text g.K.JsonItem.json g.V.JsonItem.json string_bytes c.args.map.now.pairs c.loop-place.place _ _ _ _ c.pair_at.ensures
+    λ _. made_stop g.K.JsonKey.text g.K.JsonItem.json g.V.JsonItem.json string_bytes c.args.map.now.entries c.loop-place.place _ _ _ _ c.pair_at.ensures
     c.in_ok-name.ensures.text c.in_default.is c.loop-place.invariant.1.2
 
 pub loop-place-preserved : goal.loop-place-preserved
 loop-place-preserved g c =
-    let L = c.args.map.now.pairs in
+    let L = c.args.map.now.entries in
     let x : g.row.K.Denot × g.row.V.Denot = (c.pair_at.result.0.now, c.pair_at.result.1.now) in
     let found = at_place L c.loop-place.place x c.pair_at.ensures in
     let s = string_bytes c.in-Some.name in
@@ -29,7 +29,7 @@ loop-place-preserved g c =
 
 pub returns-clause-text : goal.returns-clause-text
 returns-clause-text g c =
-    let made = pairs_end g.K.JsonKey.text g.K.JsonItem.json g.V.JsonItem.json c.args.map.now.pairs c.loop-place.place
+    let made = pairs_end g.K.JsonKey.text g.K.JsonItem.json g.V.JsonItem.json c.args.map.now.entries c.loop-place.place
     (string_bytes c.loop-place.last) c.loop-place.out.tokens c.end_object.new.self.tokens
     (omega arith) c.in_ok-end_object.ensures.ok c.loop-place.invariant.1 in
     (made.0, made.1, text_of_tree made.0 c.end_object.new.self.tokens (string_bytes c.text_of.result) made.2 c.text_of.ensures.text c.text_of.ensures.tokens)

@@ -7,7 +7,7 @@ use Rattle.litemap_json.proofs.write.array_of.Goals as goal
 
 pub loop-place-preserved : goal.loop-place-preserved
 loop-place-preserved g c =
-    let L = c.args.map.now.pairs in
+    let L = c.args.map.now.entries in
     let x : g.row.K.Denot × g.row.V.Denot = (c.pair_at.result.0.now, c.pair_at.result.1.now) in
     let found = at_place L c.loop-place.place x c.pair_at.ensures in
     record {
@@ -19,4 +19,4 @@ loop-place-preserved g c =
 
 pub returns-clause-tree : goal.returns-clause-tree
 returns-clause-tree g c =
-    rw (c.from.ensures, (rw (take_all c.loop-place.place c.args.map.now.pairs (omega arith)) at c.loop-place.invariant.made)) refl
+    rw (c.from.ensures, (rw (take_all c.loop-place.place c.args.map.now.entries (omega arith)) at c.loop-place.invariant.made)) refl

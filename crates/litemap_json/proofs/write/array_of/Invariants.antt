@@ -7,6 +7,6 @@ use Rattle.litemap_json.proofs.write.array_of.Given as goal
 -- the rows so far, each of which is read back
 abbrev pub invariant-loop-place : goal.invariant-loop-place
 invariant-loop-place g l = record {
-  made : map view l.list.items ≡ map (row g.K.JsonKey.text g.K.JsonItem.json g.V.JsonItem.json) (take l.place l.map.pairs);
-  readable : AllReadBack g.K.JsonItem.item g.V.JsonItem.item g.K.JsonItem.json g.V.JsonItem.json (take l.place l.map.pairs);
+  made : map view l.list.items ≡ map (row g.K.JsonKey.text g.K.JsonItem.json g.V.JsonItem.json) (take l.place l.map.entries);
+  readable : AllReadBack g.K.JsonItem.item g.V.JsonItem.item g.K.JsonItem.json g.V.JsonItem.json (take l.place l.map.entries);
 }

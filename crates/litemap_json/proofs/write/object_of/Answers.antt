@@ -7,7 +7,7 @@ use Rattle.litemap_json.proofs.write.object_of.Goals as goal
 
 pub returns-in_default-clause-error : goal.returns-in_default-clause-error
 returns-in_default-clause-error g c =
-    λ _. made_stop g.K.JsonKey.text g.K.JsonItem.json g.V.JsonItem.json string_bytes c.args.map.now.pairs c.loop-place.place _ _ _ _ c.pair_at.ensures
+    λ _. made_stop g.K.JsonKey.text g.K.JsonItem.json g.V.JsonItem.json string_bytes c.args.map.now.entries c.loop-place.place _ _ _ _ c.pair_at.ensures
     c.in_ok-name.ensures.text c.in_default.is c.loop-place.invariant.0
 
 pub loop-place-preserved : goal.loop-place-preserved
@@ -19,13 +19,13 @@ loop-place-preserved g c =
     rw (c.in_ok-put_member-2.ensures, c.in_ok-item.ensures.tree)
     (object_step g.K.Ord.cmp g.met.K.Ord.total g.K.JsonKey.text g.K.JsonKey.key g.K.JsonItem.item g.V.JsonItem.item g.K.JsonItem.json g.V.JsonItem.json
     g.met.K.JsonKey.one_tree
-    c.args.map.now.pairs c.loop-place.place x s (members_view c.loop-place.members.entries) c.pair_at.ensures c.len-place-end.ensures.rising named known
+    c.args.map.now.entries c.loop-place.place x s (members_view c.loop-place.members.entries) c.pair_at.ensures c.len-place-end.ensures.rising named known
     c.in_ok-item.ensures.reads_back c.loop-place.invariant)
 
 pub returns-clause-reads_back : goal.returns-clause-reads_back
 returns-clause-reads_back g c =
     object_end g.K.Ord.cmp g.met.K.Ord.total g.K.JsonKey.text g.K.JsonKey.key g.K.JsonItem.item g.V.JsonItem.item g.K.JsonItem.json g.V.JsonItem.json
-    c.args.map.now.pairs c.loop-place.place (members_view c.loop-place.members.entries) (view c.from.result)
+    c.args.map.now.entries c.loop-place.place (members_view c.loop-place.members.entries) (view c.from.result)
     (omega arith) c.len-place-end.ensures.rising c.from.ensures c.loop-place.invariant
 
 pub loop-place-init : goal.loop-place-init
@@ -35,7 +35,7 @@ loop-place-init g c =
     rw (c.in_ok-put_member.ensures, c.in_ok-to_value.ensures.tree, none)
     (object_step g.K.Ord.cmp g.met.K.Ord.total g.K.JsonKey.text g.K.JsonKey.key g.K.JsonItem.item g.V.JsonItem.item g.K.JsonItem.json g.V.JsonItem.json
     g.met.K.JsonKey.one_tree
-    c.args.map.now.pairs 0 x (string_bytes c.args.name) no_members c.requires.1 c.len-place-end.ensures.rising c.requires.2 c.requires.3
+    c.args.map.now.entries 0 x (string_bytes c.args.name) no_members c.requires.1 c.len-place-end.ensures.rising c.requires.2 c.requires.3
     c.in_ok-to_value.ensures.reads_back (
       refl,
       gathered_none g.K.Ord.cmp g.met.K.Ord.total g.K.JsonKey.text g.K.JsonKey.key g.K.JsonItem.item g.V.JsonItem.item g.K.JsonItem.json

@@ -5,4 +5,4 @@ pub returns-clause-reads_back : goal.returns-clause-reads_back
 returns-clause-reads_back g c =
     rw c.in_ok-array_of.ensures.tree
     (array_again g.K.Ord.cmp g.met.K.Ord.total g.K.JsonKey.text g.K.JsonKey.key g.K.JsonItem.item g.V.JsonItem.item g.K.JsonItem.json g.V.JsonItem.json
-    c.args.map.now.pairs c.in_ok-array_of.ensures.rising c.in_ok-array_of.ensures.reads_back)
+    c.args.map.now.entries c.in_ok-array_of.ensures.rising c.in_ok-array_of.ensures.reads_back)

@@ -22,5 +22,5 @@ returns-clause-run g c =
     let all : c.loop-call.yielded ≡ c.args.calls.items =
     All-taken _ _ (c.next.new.self, (c.loop-call.call-iterator, c.loop-call.yielded_by, c.in-None.ensures.steps))
     ∙ c.into_iter-call-iterator.ensures.into_iter_gives.0 in
-    subst (λ (calls : List (Call g.row.K.Denot g.row.V.Denot)). Run g.K.Ord.cmp c.args.map.now calls c.loop-call.answers.items c.loop-call.map) all
+    subst (λ (calls : List (Call g.row.K.Denot g.row.V.Denot _)). Run g.K.Ord.cmp c.args.map.now calls c.loop-call.answers.items c.loop-call.map) all
     c.loop-call.invariant.run

@@ -8,6 +8,6 @@ pub returns-in_err-extend_from_vec-clause-asked : goal.returns-in_err-extend_fro
 returns-in_err-extend_from_vec-clause-asked g c =
     let pairs = c.in_ok-pairs.pairs in
     let some = rw c.in_err-extend_from_vec.was at
-    (some_refused g.K.Ord.cmp c.extend_from_vec.result c.args.map.now.pairs pairs.items c.args.map.now.room c.extend_from_vec.ensures.succeeds) in
+    (some_refused g.K.Ord.cmp c.extend_from_vec.result c.args.map.now.entries pairs.items c.args.map.now.room c.extend_from_vec.ensures.succeeds) in
     asked_refused c.from_residual-in_err-extend_from_vec.result c.from_residual-in_err-extend_from_vec.ensures.1
     c.drain.ensures.rest c.drain.ensures.asked.leads (omega (arith, pairs.ok.0, c.in_ok-pairs.ensures.fewer, some))

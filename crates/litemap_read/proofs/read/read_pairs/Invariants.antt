@@ -7,7 +7,7 @@ abbrev pub invariant-loop-key : goal.invariant-loop-key
 invariant-loop-key g l = record {
   seen : (seen : List (g.row.K.Denot × g.row.V.Denot))
       × ((rest : List (g.row.K.Denot × g.row.V.Denot)) → g.P.PairSource.gives l.source rest → g.P.PairSource.gives l.fn.source (seen ++ rest))
-      × Sifted g.K.Ord.cmp g.row.V.Denot [] [] seen l.map.pairs l.aside.items
+      × Sifted g.K.Ord.cmp g.row.V.Denot [] [] seen l.map.entries l.aside.items
       × (length seen + g.P.PairSource.left l.source ≡ g.P.PairSource.left l.fn.source);
   errors : (e : _) → g.P.PairSource.allows l.source e ↔ g.P.PairSource.allows l.fn.source e;
   end : g.P.PairSource.ends l.source ↔ g.P.PairSource.ends l.fn.source;

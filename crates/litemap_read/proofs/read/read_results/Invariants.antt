@@ -6,4 +6,4 @@ use Rattle.litemap_read.proofs.read.read_results.Given as goal
 abbrev pub invariant-loop-item : goal.invariant-loop-item
 invariant-loop-item g l =
     (seen : List (g.row.K.Denot × g.row.V.Denot)) × (l.yielded ≡ map (λ p. Ok p) seen)
-    × Sifted g.K.Ord.cmp g.row.V.Denot [] [] seen l.map.pairs l.aside.items
+    × Sifted g.K.Ord.cmp g.row.V.Denot [] [] seen l.map.entries l.aside.items

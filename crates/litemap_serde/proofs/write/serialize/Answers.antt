@@ -10,7 +10,7 @@ loop-place-preserved g c =
     let before = c.loop-place.invariant in (
       before.0,
       before.1,
-      more (WritesEntry g.K.Described.writes g.V.Described.writes) c.args.map.now.pairs c.loop-place.place x before.0 _ _
+      more (WritesEntry g.K.Described.writes g.V.Described.writes) c.args.map.now.entries c.loop-place.place x before.0 _ _
           (sym (rw c.unwrap.ensures at c.get_indexed.ensures)) before.2
           (_, _, _, c.in_ok-begin_key.ensures, c.in_ok-serialize.ensures, c.in_ok-end_key.ensures, c.in_ok-serialize-2.ensures),
     )
@@ -18,6 +18,6 @@ loop-place-preserved g c =
 pub returns : goal.returns
 returns g c =
     let before = c.loop-place.invariant in
-    let each = all (WritesEntry g.K.Described.writes g.V.Described.writes) c.args.map.now.pairs c.loop-place.place before.0 _
+    let each = all (WritesEntry g.K.Described.writes g.V.Described.writes) c.args.map.now.entries c.loop-place.place before.0 _
     (rw c.len-len.ensures.len at c.loop-place-test.false) before.2 in
     on_ok_weaker c.end_map.result (λ ended. (before.0, _, before.1, each, ended)) c.end_map.ensures

@@ -1,7 +1,7 @@
 use Rattle.std.proofs.Common.{ap, cond, false, is_some, length, not, refl, sym, true, ◌+◌, ◌∙◌, ◌≡◌, Bool}
 use Rattle.std.specs.Bool.{OnFalse}
 use Rattle.std.specs.Map.{keys_of}
-use Rattle.litemap_set.proofs.Keys.{contains-keys, contains-put, keys-put, length-put, new_if_absent}
+use Rattle.litemap_set.proofs.Keys.{contains-keys, contains-put, keys-put, keys_of-put, length-put, new_if_absent}
 use Rattle.litemap_set.specs.Sets.{contains}
 use Rattle.litemap_set.proofs.VecSet.insert.Goals as goal
 
@@ -20,10 +20,11 @@ returns-in-Err g c =
     rw (← c.self.view_is) (record {
       added = tt;
       updates = tt;
+      keys = tt;
       len = tt;
       present = tt;
       room_kept = tt;
-      absent = sym (contains-keys g.K.Ord.cmp c.args.key c.self.inside.map.pairs) ∙ ap is_some refused.absent;
+      absent = sym (contains-keys g.K.Ord.cmp c.args.key c.self.inside.map.entries) ∙ ap is_some refused.absent;
       full = refused.refused.full;
       unchanged = ap keys_of refused.refused.unchanged;
       back = ap (λ p. p.0) refused.refused.back;
@@ -32,7 +33,7 @@ returns-in-Err g c =
 
 pub returns : goal.returns
 returns g c =
-    let L = c.self.inside.map.pairs in
+    let L = c.self.inside.map.entries in
     let key = c.args.key in
     let inserts = c.in-Ok.ensures.inserts in
     let added = new_if_absent g.K.Ord.cmp key L c.in-Ok.old c.is_none.result c.is_none.ensures inserts.old in
@@ -40,6 +41,7 @@ returns g c =
     rw (← c.self.view_is) (record {
       added = added;
       updates = λ q. rw inserts.put (contains-put g.met.K.Ord.total L key tt q);
+      keys = rw inserts.put (keys_of-put g.met.K.Ord.total L key tt c.keys_ascend.ensures.rising);
       len = rw (added, inserts.put) (
           length-put g.met.K.Ord.total L key tt c.keys_ascend.ensures.rising ∙ ap (λ b. length (keys_of L) + cond (not b) 1 0) (contains-keys g.K.Ord.cmp key L)
           );

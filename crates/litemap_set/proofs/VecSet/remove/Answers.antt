@@ -15,9 +15,9 @@ pub returns : goal.returns
 returns g c =
     let order = g.Q.Query.order in
     let q = g.Q.Query.sought c.args.key in
-    let L = c.self.inside.map.pairs in
+    let L = c.self.inside.map.entries in
     let found : c.is_some.result ≡ contains order (keys_of L) q = c.is_some.ensures ∙ ap is_some c.remove.ensures.value ∙ contains-value order q L in
-    let keys : keys_of c.remove.new.self.pairs ≡ filter (λ k. not (is_eq (order k q))) (keys_of L) =
+    let keys : keys_of c.remove.new.self.entries ≡ filter (λ k. not (is_eq (order k q))) (keys_of L) =
     rw c.remove.ensures.removed.cut (keys-cut order g.met.Q.Query.one_side q L c.keys_ascend.ensures.rising) in
     rw (← c.self.view_is) (record {
       found = found;
@@ -27,6 +27,6 @@ returns g c =
       len = rw (found, c.remove.ensures.removed.cut) (length-cut order g.met.Q.Query.one_side q L c.keys_ascend.ensures.rising);
       unchanged = on_false c.is_some.result (λ none i.
           let same = c.remove.ensures.removed.unchanged (contains-keys order q L ∙ sym found ∙ none) in
-          record { keys = keys_of (same i).pairs; room = (same i).room });
+          record { keys = keys_of (same i).entries; room = (same i).room });
       room = λ there. c.remove.ensures.removed.room tt (sym c.is_some.ensures ∙ there);
     })

@@ -10,5 +10,5 @@ returns-in-Ok-to_string-clause-text c =
     let value = view c.in-Ok.value in
     let made = c.in-Ok.ensures.tree in
     let whole = tree_no_float (λ (b : Bool). Some (bool_text b)) boolean (λ (n : ℕ). whole_json (pos n)) (λ b. refl)
-    (λ n. refl) c.args.flags.now.pairs value made in
+    (λ n. refl) c.args.flags.now.entries value made in
     (value, made, c.in-Ok-to_string.ensures.text whole)

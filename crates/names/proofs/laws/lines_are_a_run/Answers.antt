@@ -12,10 +12,10 @@ use Rattle.names.proofs.laws.lines_are_a_run.Goals as goal
 
 step : (old next : TextMap) (text : List ℕ) (command : Command) → Replies old command text next
     → (answer : Answer (List ℕ) (List ℕ)) × Step bytes_cmp old (call_of command) answer next
-step old next text (Put k v) (told, (puts, room, kept)) = (Value (value_at bytes_cmp old.pairs k.now), inl (refl, (puts, room), kept))
-step old next text (Get k) (told, same) = (Value (value_at bytes_cmp old.pairs k.now), inl (refl, same))
-step old next text (Del k) (told, cuts, kept) = (Value (value_at bytes_cmp old.pairs k.now), inl (refl, cuts, kept))
-step old next text (Find k) (told, same) = (Place (index_of bytes_cmp old.pairs k.now), inl (refl, same))
+step old next text (Put k v) (told, (puts, room, kept)) = (Value (value_at bytes_cmp old.entries k.now), inl (refl, (puts, room), kept))
+step old next text (Get k) (told, same) = (Value (value_at bytes_cmp old.entries k.now), inl (refl, same))
+step old next text (Del k) (told, cuts, kept) = (Value (value_at bytes_cmp old.entries k.now), inl (refl, cuts, kept))
+step old next text (Find k) (told, same) = (Place (index_of bytes_cmp old.entries k.now), inl (refl, same))
 
 each_step : LinesAreARun
 each_step start end [] text (_, same) = ([], [], refl, same)

@@ -5,4 +5,4 @@ use Rattle.names_core.specs.Told.{pair_text}
 use Rattle.names_core.proofs.reply.all.Given as goal
 
 abbrev pub invariant-loop-index : goal.invariant-loop-index
-invariant-loop-index g l = string_bytes l.text ≡ flat_map (λ pair. pair_text (pair_bytes pair)) (take l.index l.names.pairs)
+invariant-loop-index g l = string_bytes l.text ≡ flat_map (λ pair. pair_text (pair_bytes pair)) (take l.index l.names.entries)

@@ -9,7 +9,7 @@ use Rattle.names_core.proofs.reply.json.Goals as goal
 pub loop-index-preserved : goal.loop-index-preserved
 loop-index-preserved g c = (
   search rules,
-  flat_map_one_more (begin_object ∷ []) (λ pair. pair_tokens (pair_bytes pair)) c.args.names.now.pairs c.loop-index.index _ _
+  flat_map_one_more (begin_object ∷ []) (λ pair. pair_tokens (pair_bytes pair)) c.args.names.now.entries c.loop-index.index _ _
       (omega arith) c.loop-index.invariant.1
       (rw (← c.get_indexed.ensures, c.unwrap.ensures, ← c.as_str.ensures.value, ← c.as_str-in-loop-index.ensures.value)
       (c.in_ok-string.ensures.ok ∙ ap (λ t. t ++ string c.as_str-in-loop-index.result.now ∷ []) c.in_ok-key.ensures.ok ∙ append_assoc c.loop-index.writer.tokens
@@ -18,11 +18,11 @@ loop-index-preserved g c = (
 
 pub returns : goal.returns
 returns g c =
-    let L = c.args.names.now.pairs in
+    let L = c.args.names.now.entries in
     let tokens = rw (take_all c.loop-index.index L (omega arith)) at c.loop-index.invariant.1 in
     rw (c.in_ok-push_str.ensures.bytes, c.written-text.ensures, c.in_ok-end_object.ensures.ok, tokens)
     (ap line (print-object L (sym c.is_empty.ensures ∙ c.if-is_empty.false)))
 
 pub unwrap-requires : goal.unwrap-requires
 unwrap-requires g c =
-    is_there _ _ c.args.names.now.pairs c.loop-index.index c.get_indexed.ensures (omega (arith, c.loop-index-test.true, c.len-index-end.ensures.len))
+    is_there _ _ c.args.names.now.entries c.loop-index.index c.get_indexed.ensures (omega (arith, c.loop-index-test.true, c.len-index-end.ensures.len))

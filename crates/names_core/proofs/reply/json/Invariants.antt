@@ -6,4 +6,4 @@ use Rattle.names_core.proofs.reply.json.Given as goal
 
 abbrev pub invariant-loop-index : goal.invariant-loop-index
 invariant-loop-index g l =
-    (l.writer.before ≡ []) × (l.writer.tokens ≡ begin_object ∷ flat_map (λ pair. pair_tokens (pair_bytes pair)) (take l.index l.names.pairs))
+    (l.writer.before ≡ []) × (l.writer.tokens ≡ begin_object ∷ flat_map (λ pair. pair_tokens (pair_bytes pair)) (take l.index l.names.entries))

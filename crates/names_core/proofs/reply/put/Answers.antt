@@ -10,7 +10,7 @@ use Rattle.names_core.proofs.reply.put.Goals as goal
 pub returns-in-Ok : goal.returns-in-Ok
 returns-in-Ok g c =
     let done = c.in-Ok.ensures.inserts in
-    let L = c.args.names.now.pairs in
+    let L = c.args.names.now.entries in
     let key = c.args.key.now in
     IfOk-weaker _ _ (λ text. (string_bytes text ≡ old_text (value_at bytes_cmp (map pair_bytes L) key)) × Puts (names_of c.args.names.now) key c.args.value.now
     (names_of c.insert.new.self))

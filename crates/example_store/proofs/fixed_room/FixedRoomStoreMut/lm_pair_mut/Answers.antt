@@ -12,7 +12,7 @@ returns g c =
       (
         refl,
         λ w. rw (← c.self.view_is)
-            (sym (ap (λ o. record { pairs = option_map_or (λ p. slice_set pairs c.args.index (p.0, w)) o pairs; room = room }) at)),
+            (sym (ap (λ o. record { entries = option_map_or (λ p. slice_set pairs c.args.index (p.0, w)) o pairs; room = room }) at)),
       ),
       record { writes_back = tt; pair = rw (← c.self.view_is) at },
     )

@@ -11,7 +11,7 @@ returns-in-Err-clause-found g c = record {
 
 pub returns-in-Ok-clause-found : goal.returns-in-Ok-clause-found
 returns-in-Ok-clause-found g c =
-    let pairs = c.args.self.now.pairs in
+    let pairs = c.args.self.now.entries in
     let sought = g.Q.Query.sought c.args.key in
     let found = c.in-Ok.ensures.splits in
     let there = ap (option_map (λ p. p.1)) c.const_get_indexed_or_panic.ensures in
@@ -23,4 +23,5 @@ returns-in-Ok-clause-found g c =
     }
 
 pub const_get_indexed_or_panic-requires : goal.const_get_indexed_or_panic-requires
-const_get_indexed_or_panic-requires g c = found_within g.Q.Query.order c.args.self.now.pairs (g.Q.Query.sought c.args.key) c.in-Ok.index c.in-Ok.ensures.splits
+const_get_indexed_or_panic-requires g c =
+    found_within g.Q.Query.order c.args.self.now.entries (g.Q.Query.sought c.args.key) c.in-Ok.index c.in-Ok.ensures.splits

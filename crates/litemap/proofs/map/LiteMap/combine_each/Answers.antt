@@ -11,7 +11,7 @@ combine-requires g c =
 
 pub loop-index-preserved : goal.loop-index-preserved
 loop-index-preserved g c =
-    let cmp = g.K.Ord.cmp in let f = c.args.f.now in let there = c.args.self.now.pairs in
+    let cmp = g.K.Ord.cmp in let f = c.args.f.now in let there = c.args.self.now.entries in
     let store = c.loop-index.store in
     let pairs = g.S.Store.pairs store in
     let i = c.loop-index.index in
@@ -33,5 +33,5 @@ loop-index-preserved g c =
 
 pub returns-clause-combined : goal.returns-clause-combined
 returns-clause-combined g c =
-    written_all (Combined g.F.Fn c.args.f.now g.K.Ord.cmp c.args.self.now.pairs (g.S.Store.pairs c.args.store.now)) (g.S.Store.pairs c.loop-index.store)
-    c.loop-index.index (Combined g.F.Fn c.args.f.now g.K.Ord.cmp c.args.self.now.pairs) (omega arith) refl c.loop-index.invariant.so_far
+    written_all (Combined g.F.Fn c.args.f.now g.K.Ord.cmp c.args.self.now.entries (g.S.Store.pairs c.args.store.now)) (g.S.Store.pairs c.loop-index.store)
+    c.loop-index.index (Combined g.F.Fn c.args.f.now g.K.Ord.cmp c.args.self.now.entries) (omega arith) refl c.loop-index.invariant.so_far

@@ -6,7 +6,7 @@ abbrev pub invariant-loop-index : goal.invariant-loop-index
 invariant-loop-index g l =
     let old = g.S.Store.pairs l.fn.store in
     let pairs = g.S.Store.pairs l.store in
-    let here = l.fn.self.pairs in
+    let here = l.fn.self.entries in
     record {
       same_length : length pairs ≡ length old;
       room : g.S.Store.room l.store ≡ g.S.Store.room l.fn.store;

@@ -9,4 +9,4 @@ pub returns-in-Excluded-clause-cut : goal.returns-in-Excluded-clause-cut
 returns-in-Excluded-clause-cut g c = rw c.in-Excluded.is c.start_of-in-Excluded.ensures.cut
 
 pub returns-in-Unbounded-clause-cut : goal.returns-in-Unbounded-clause-cut
-returns-in-Unbounded-clause-cut g c = rw (c.in-Unbounded.is, c.len.ensures.len) (IsCut-all _ c.args.self.now.pairs (λ p. refl))
+returns-in-Unbounded-clause-cut g c = rw (c.in-Unbounded.is, c.len.ensures.len) (IsCut-all _ c.args.self.now.entries (λ p. refl))

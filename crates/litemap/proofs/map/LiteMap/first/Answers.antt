@@ -5,15 +5,15 @@ use Rattle.litemap.proofs.map.LiteMap.first.Goals as goal
 
 pub returns-clause-found : goal.returns-clause-found
 returns-clause-found g c =
-    let there : option_map deref_pair c.lm_get.result ≡ slice_get c.args.self.now.pairs 0 = search rules in
-    found_there g.met.K.Ord.total c.args.self.now.pairs (rw (ap (λ m. m.pairs) c.self.view_is) at c.self.invariant) 0 c.lm_get.result there
+    let there : option_map deref_pair c.lm_get.result ≡ slice_get c.args.self.now.entries 0 = search rules in
+    found_there g.met.K.Ord.total c.args.self.now.entries (rw (ap (λ m. m.entries) c.self.view_is) at c.self.invariant) 0 c.lm_get.result there
 
 pub returns-clause-least : goal.returns-clause-least
 returns-clause-least g c =
-    let there : option_map deref_pair c.lm_get.result ≡ slice_get c.args.self.now.pairs 0 = search rules in
-    least_there g.met.K.Ord.total c.args.self.now.pairs (rw (ap (λ m. m.pairs) c.self.view_is) at c.self.invariant) c.lm_get.result there
+    let there : option_map deref_pair c.lm_get.result ≡ slice_get c.args.self.now.entries 0 = search rules in
+    least_there g.met.K.Ord.total c.args.self.now.entries (rw (ap (λ m. m.entries) c.self.view_is) at c.self.invariant) c.lm_get.result there
 
 pub returns-clause-empty : goal.returns-clause-empty
 returns-clause-empty g c = λ none.
-    let there : option_map deref_pair c.lm_get.result ≡ slice_get c.args.self.now.pairs 0 = search rules in
-    empty_from_first c.args.self.now.pairs (empty_there c.lm_get.result _ none there)
+    let there : option_map deref_pair c.lm_get.result ≡ slice_get c.args.self.now.entries 0 = search rules in
+    empty_from_first c.args.self.now.entries (empty_there c.lm_get.result _ none there)

@@ -10,4 +10,4 @@ returns-clause-runs g c =
     from_front g.S.KeyValueIter.Iterator.next_gives deref_pair g.S.KeyValueIter.PairIter.rest (λ s t h. ap length (first s _ t h).0) (λ s x t h. first s _ t h)
 
 pub returns-clause-found : goal.returns-clause-found
-returns-clause-found g c = all_found g.met.K.Ord.total c.args.self.now.pairs (rw (ap (λ m. m.pairs) c.self.view_is) at c.self.invariant)
+returns-clause-found g c = all_found g.met.K.Ord.total c.args.self.now.entries (rw (ap (λ m. m.entries) c.self.view_is) at c.self.invariant)

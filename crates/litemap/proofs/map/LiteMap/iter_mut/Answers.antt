@@ -16,13 +16,13 @@ returns g c =
     let store = c.self.inside.store in (
       (
         sym c.new.ensures.loan,
-        λ w. (λ j. record { pairs = g.met.S.StoreColumns.writes_all store w j; room = g.met.S.StoreColumns.keeps_room_all store w j })
-            ∙ ap (λ m. with_pairs m (set_values m.pairs w)) c.self.view_is,
+        λ w. (λ j. record { entries = g.met.S.StoreColumns.writes_all store w j; room = g.met.S.StoreColumns.keeps_room_all store w j })
+            ∙ ap (λ m. with_pairs m (set_values m.entries w)) c.self.view_is,
       ),
       record {
         writes_back = tt;
         left = c.new.ensures.left ∙ (λ j. zip (c.lm_columns_mut-values.ensures.keys j) (c.lm_columns_mut-values.ensures.values j))
-            ∙ zip-parts (g.S.Store.pairs store) ∙ ap (λ m. m.pairs) c.self.view_is;
-        keys = keys-set_values c.args.self.now.pairs;
+            ∙ zip-parts (g.S.Store.pairs store) ∙ ap (λ m. m.entries) c.self.view_is;
+        keys = keys-set_values c.args.self.now.entries;
       },
     )

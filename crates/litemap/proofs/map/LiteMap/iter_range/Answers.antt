@@ -7,9 +7,9 @@ pub returns-clause-pairs : goal.returns-clause-pairs
 returns-clause-pairs g c = search rules
 
 pub returns-clause-inside : goal.returns-clause-inside
-returns-clause-inside g c = each_between _ _ _ c.args.self.now.pairs c.between.result (returns-clause-pairs g c)
+returns-clause-inside g c = each_between _ _ _ c.args.self.now.entries c.between.result (returns-clause-pairs g c)
 
 pub returns-clause-found : goal.returns-clause-found
 returns-clause-found g c =
-    kept_found g.met.K.Ord.total c.args.self.now.pairs (rw (ap (λ m. m.pairs) c.self.view_is) at c.self.invariant) _ c.between.result
+    kept_found g.met.K.Ord.total c.args.self.now.entries (rw (ap (λ m. m.entries) c.self.view_is) at c.self.invariant) _ c.between.result
     (returns-clause-pairs g c)

@@ -5,16 +5,16 @@ use Rattle.litemap.proofs.map.LiteMap.last.Goals as goal
 
 pub returns-clause-found : goal.returns-clause-found
 returns-clause-found g c =
-    let there : option_map deref_pair c.lm_last.result ≡ slice_get c.args.self.now.pairs (length c.args.self.now.pairs - 1) = search rules in
-    found_there g.met.K.Ord.total c.args.self.now.pairs (rw (ap (λ m. m.pairs) c.self.view_is) at c.self.invariant)
-    (length c.args.self.now.pairs - 1) c.lm_last.result there
+    let there : option_map deref_pair c.lm_last.result ≡ slice_get c.args.self.now.entries (length c.args.self.now.entries - 1) = search rules in
+    found_there g.met.K.Ord.total c.args.self.now.entries (rw (ap (λ m. m.entries) c.self.view_is) at c.self.invariant)
+    (length c.args.self.now.entries - 1) c.lm_last.result there
 
 pub returns-clause-greatest : goal.returns-clause-greatest
 returns-clause-greatest g c =
-    let there : option_map deref_pair c.lm_last.result ≡ slice_get c.args.self.now.pairs (length c.args.self.now.pairs - 1) = search rules in
-    greatest_there g.met.K.Ord.total c.args.self.now.pairs (rw (ap (λ m. m.pairs) c.self.view_is) at c.self.invariant) c.lm_last.result there
+    let there : option_map deref_pair c.lm_last.result ≡ slice_get c.args.self.now.entries (length c.args.self.now.entries - 1) = search rules in
+    greatest_there g.met.K.Ord.total c.args.self.now.entries (rw (ap (λ m. m.entries) c.self.view_is) at c.self.invariant) c.lm_last.result there
 
 pub returns-clause-empty : goal.returns-clause-empty
 returns-clause-empty g c = λ none.
-    let there : option_map deref_pair c.lm_last.result ≡ slice_get c.args.self.now.pairs (length c.args.self.now.pairs - 1) = search rules in
-    empty_from_last c.args.self.now.pairs (empty_there c.lm_last.result _ none there)
+    let there : option_map deref_pair c.lm_last.result ≡ slice_get c.args.self.now.entries (length c.args.self.now.entries - 1) = search rules in
+    empty_from_last c.args.self.now.entries (empty_there c.lm_last.result _ none there)

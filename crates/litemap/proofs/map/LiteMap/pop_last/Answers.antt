@@ -8,8 +8,8 @@ returns-clause-last g c =
 
 pub returns-clause-others : goal.returns-clause-others
 returns-clause-others g c =
-    c.take_at.ensures.pairs
-    ∙ rw (c.in_ok-index.ensures.1, c.len.ensures.len, drop_all (suc (length c.args.self.now.pairs - 1)) c.args.self.now.pairs (omega arith), append-nil) refl
+    let L = c.args.self.now.entries in
+    c.take_at.ensures.pairs ∙ rw (c.in_ok-index.ensures.1, c.len.ensures.len, drop_all (suc (length L - 1)) L (omega arith), append-nil) refl
 
 pub returns-clause-greatest : goal.returns-clause-greatest
-returns-clause-greatest g c = is_greatest g.met.K.Ord.total c.args.self.now.pairs c.take_at.result c.take_at.ensures.rising (sym (returns-clause-last g c))
+returns-clause-greatest g c = is_greatest g.met.K.Ord.total c.args.self.now.entries c.take_at.result c.take_at.ensures.rising (sym (returns-clause-last g c))

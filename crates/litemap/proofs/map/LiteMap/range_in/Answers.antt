@@ -9,8 +9,8 @@ pub returns-clause-stays : goal.returns-clause-stays
 returns-clause-stays g c bounds = rw (c.start_bound.ensures bounds, c.end_bound.ensures bounds) at c.range.ensures.stays
 
 pub returns-clause-inside : goal.returns-clause-inside
-returns-clause-inside g c bounds = are_between _ _ _ c.args.self.now.pairs c.range.result.pairs (returns-clause-pairs g c bounds)
+returns-clause-inside g c bounds = are_between _ _ _ c.args.self.now.entries c.range.result.entries (returns-clause-pairs g c bounds)
 
 pub returns-clause-keys : goal.returns-clause-keys
 returns-clause-keys g c bounds =
-    finds_between _ _ _ c.args.self.now.pairs c.range.result.pairs (returns-clause-pairs g c bounds) (key_respects g.met.K.Ord.total)
+    finds_between _ _ _ c.args.self.now.entries c.range.result.entries (returns-clause-pairs g c bounds) (key_respects g.met.K.Ord.total)

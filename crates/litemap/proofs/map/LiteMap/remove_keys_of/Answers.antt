@@ -10,14 +10,14 @@ invariant_of-self g c =
 pub returns-clause-pairs : goal.returns-clause-pairs
 returns-clause-pairs g c =
     Kept-beside g.met.K.Ord.total _ (λ f. f.0) (not) (λ f k v b f' called. called.met) _ _ _ _ _ _
-    c.lm_retain.ensures.kept c.self.invariant (ap (λ m. m.pairs) c.self.view_is) c.all-rest.ensures c.other.invariant (ap (λ m. m.pairs) c.other.view_is)
+    c.lm_retain.ensures.kept c.self.invariant (ap (λ m. m.entries) c.self.view_is) c.all-rest.ensures c.other.invariant (ap (λ m. m.entries) c.other.view_is)
 
 pub returns-clause-stays : goal.returns-clause-stays
-returns-clause-stays g c = keeps_part _ c.args.self.now.pairs _ (returns-clause-pairs g c)
+returns-clause-stays g c = keeps_part _ c.args.self.now.entries _ (returns-clause-pairs g c)
 
 pub returns-clause-found : goal.returns-clause-found
 returns-clause-found g c =
-    λ key. value_at-kept g.met.K.Ord.total not c.args.other.now.pairs _ _ (returns-clause-stays g c) key
-    ∙ elim (is_some (at g.K.Ord.cmp c.args.other.now.pairs key)) as
-    (λ b. cond (not b) (value_at g.K.Ord.cmp c.args.self.now.pairs key) None ≡ cond b None (value_at g.K.Ord.cmp c.args.self.now.pairs key))
+    λ key. value_at-kept g.met.K.Ord.total not c.args.other.now.entries _ _ (returns-clause-stays g c) key
+    ∙ elim (is_some (at g.K.Ord.cmp c.args.other.now.entries key)) as
+    (λ b. cond (not b) (value_at g.K.Ord.cmp c.args.self.now.entries key) None ≡ cond b None (value_at g.K.Ord.cmp c.args.self.now.entries key))
     [ true ↦ refl | false ↦ refl ]

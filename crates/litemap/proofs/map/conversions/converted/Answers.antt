@@ -22,7 +22,7 @@ made_of-requires-in-loop-index g c κs = (
 pub loop-index-preserved : goal.loop-index-preserved
 loop-index-preserved g c = record {
   became = rw c.in-Ok.ensures.ok
-      (alongside-more (λ p q. g.X.Becomes.became c.args.keys.now p.0 q.0 × g.Y.Becomes.became c.args.values.now p.1 q.1) c.args.map.now.pairs
+      (alongside-more (λ p q. g.X.Becomes.became c.args.keys.now p.0 q.0 × g.Y.Becomes.became c.args.values.now p.1 q.1) c.args.map.now.entries
       (g.B.Store.pairs c.loop-index.made)
       c.loop-index.index (c.unwrap.result.0.now, c.unwrap.result.1.now) (c.in_ok-key.key, c.in_ok-value.value)
       (sym c.get_indexed.ensures ∙ ap (option_map deref_pair) c.unwrap.ensures)
@@ -32,8 +32,8 @@ loop-index-preserved g c = record {
 
 pub from_sorted_store_unchecked-requires : goal.from_sorted_store_unchecked-requires
 from_sorted_store_unchecked-requires g c =
-    let all = take_all c.loop-index.index c.args.map.now.pairs (omega (arith, c.loop-index-test.false, c.len-index-end.ensures.len)) in
-    Rising-became g.K.Ord.cmp g.L.Ord.cmp (g.X.Becomes.became c.args.keys.now) (g.Y.Becomes.became c.args.values.now) c.args.map.now.pairs _
+    let all = take_all c.loop-index.index c.args.map.now.entries (omega (arith, c.loop-index-test.false, c.len-index-end.ensures.len)) in
+    Rising-became g.K.Ord.cmp g.L.Ord.cmp (g.X.Becomes.became c.args.keys.now) (g.Y.Becomes.became c.args.values.now) c.args.map.now.entries _
     c.requires.rising (rw all at c.loop-index.invariant.became) c.len-index-end.ensures.rising
 
 pub unwrap-requires : goal.unwrap-requires

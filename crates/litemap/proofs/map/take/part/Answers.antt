@@ -1,9 +1,14 @@
 use Rattle.litemap.proofs.Common.{ap, arith, false, length, refl, rules, true}
-use denote.Param.Always.{mut_next}
 use Rattle.litemap_store.specs.Retain.{CalledOnPair}
+use Rattle.litemap_store.proofs.Stores.Retaining.{CallableOnEach-first, CallableOnEach-rest}
 use Rattle.litemap.proofs.Outcomes.{has_room}
 use Rattle.litemap.proofs.Parting.{Parted-all, Parted-goes, Parted-stays}
 use Rattle.litemap.proofs.map.take.part.Goals as goal
+
+pub f-requires : goal.f-requires
+f-requires g c =
+    let first = g.met.S.KeyValueIntoIter.PairIntoIter.first _ _ _ c.in-Some.ensures.steps in
+    CallableOnEach-first g.F.FnMut c.loop-key.f (c.in-Some.key, c.in-Some.value) _ (rw first at c.loop-key.invariant.callable) _ _ refl refl
 
 pub loop-key-preserved : goal.loop-key-preserved
 loop-key-preserved g c =
@@ -14,7 +19,7 @@ loop-key-preserved g c =
     record {
       can = g.met.S.KeyValueIntoIter.PairIntoIter.can _;
       ends = search rules;
-      callable = mut_next g.F.FnMut c.loop-key.f _ _ c.f.new.self c.f.new.self called.called refl inv.callable;
+      callable = CallableOnEach-rest g.F.FnMut c.loop-key.f p _ c.f.new.self _ called (rw first at inv.callable);
       stays = omega arith;
       goes = omega arith;
       so_far = rw (rw c.unwrap-else-f.ensures at c.lm_push-else-f.ensures.ok)
@@ -30,7 +35,7 @@ loop-key-preserved-then-f g c =
     record {
       can = g.met.S.KeyValueIntoIter.PairIntoIter.can _;
       ends = search rules;
-      callable = mut_next g.F.FnMut c.loop-key.f _ _ c.f.new.self c.f.new.self called.called refl inv.callable;
+      callable = CallableOnEach-rest g.F.FnMut c.loop-key.f p _ c.f.new.self _ called (rw first at inv.callable);
       stays = omega arith;
       goes = omega arith;
       so_far = rw (rw c.unwrap.ensures at c.lm_push.ensures.ok)

@@ -1,10 +1,15 @@
-use Rattle.litemap.proofs.Common.{◌∙◌, ap, arith, length, length-set_value, refl, set_value}
+use Rattle.litemap.proofs.Common.{◌∙◌, ap, arith, length, length-set_value, refl, set_value, subst, sym}
 use Rattle.litemap_store.proofs.Names.{length-swap, swap}
-use denote.Param.Always.{mut_next}
-use Rattle.litemap.specs.KeptWritten.{LeavesPair}
-use Rattle.litemap.proofs.KeptWriting.{KeptWritten-all, KeptWritten-no, KeptWritten-yes}
+use Rattle.litemap.specs.KeptWritten.{CallableOnValues, LeavesPair}
+use Rattle.litemap.proofs.KeptWriting.{KeptWritten-after, KeptWritten-all, KeptWritten-no, KeptWritten-yes}
+use Rattle.litemap.proofs.Writing.{CallableOnValues-after, CallableOnValues-here}
 use Rattle.litemap.proofs.map.write.retain_written.Goals as goal
 use Rattle.litemap.proofs.map.write.retain_written.Goals.{then-stays, else-stays}
+
+pub f-stays-requires : goal.f-stays-requires
+f-stays-requires g c =
+    CallableOnValues-here g.F.FnMut c.loop-index.f (g.S.Store.pairs c.loop-index.store) c.loop-index.index _ c.lm_pair_mut-value.ensures.pair
+    c.loop-index.invariant.callable _ _ refl refl
 
 pub loop-index-preserved : goal.loop-index-preserved
 loop-index-preserved g c =
@@ -27,7 +32,10 @@ loop-index-preserved g c =
     } in
     let inv = c.loop-index.invariant in
     let swapped = c.lm_swap.ensures.pairs ∙ ap (λ N. swap N k i) (g.met.S.StoreMut.writes store i w) in
-    let callable = mut_next g.F.FnMut f _ _ f' f' called.called refl inv.callable in
+    let there = c.lm_pair_mut-value.ensures.pair in
+    let after = KeptWritten-after g.F.FnMut c.args.f (g.S.Store.pairs c.args.store.now) f pairs k i p w b f' called _ swapped inv.within there inv.so_far in
+    let callable = subst (CallableOnValues g.F.FnMut f') (sym after)
+    (CallableOnValues-after g.F.FnMut f pairs i p there inv.callable b f' (p.0, w) called) in
     let len = ap length swapped ∙ length-swap (set_value pairs i w) k i ∙ length-set_value pairs i w ∙ inv.same_length in
     let room = c.lm_swap.ensures.room ∙ g.met.S.StoreMut.keeps_room store i w ∙ inv.room in
     elim c.if-stays.branch [

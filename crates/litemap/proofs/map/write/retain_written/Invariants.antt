@@ -1,5 +1,5 @@
 use Rattle.litemap.proofs.Common.{◌≡◌, ◌≤◌, List, ◌++◌, length, take, drop}
-use Rattle.litemap.specs.KeptWritten.{KeptWritten}
+use Rattle.litemap.specs.KeptWritten.{CallableOnValues, KeptWritten}
 use Rattle.litemap.proofs.map.write.retain_written.Given as goal
 
 abbrev pub invariant-loop-index : goal.invariant-loop-index
@@ -7,7 +7,7 @@ invariant-loop-index g l =
     let old = g.S.Store.pairs l.fn.store in
     let pairs = g.S.Store.pairs l.store in
     record {
-      callable : goal.F-IsAlwaysCallable g l.f;
+      callable : CallableOnValues g.F.FnMut l.f (drop l.index pairs);
       within : l.kept ≤ l.index;
       same_length : length pairs ≡ length old;
       room : g.S.Store.room l.store ≡ g.S.Store.room l.fn.store;

@@ -1,11 +1,15 @@
 use Rattle.litemap.proofs.Common.{◌≡◌, ◌+◌, ◌∙◌, ◌∷◌, Err, List, Ok, Result, arith, drop, drop_at, length-set_value, refl, subst, sym}
-use denote.Param.Always.{mut_next}
 use Rattle.std.specs.Result.{MatchResult}
-use Rattle.litemap.specs.KeptWritten.{LeavesPair}
+use Rattle.litemap.specs.KeptWritten.{CallableOnValues, LeavesPair}
 use Rattle.litemap.specs.TryWritten.{WrittenUntil}
 use Rattle.litemap.proofs.TryWriting.{with_written}
-use Rattle.litemap.proofs.Writing.{written_all, written_on}
+use Rattle.litemap.proofs.Writing.{CallableOnValues-after, CallableOnValues-here, drop-written, written_all, written_on}
 use Rattle.litemap.proofs.map.write.try_write_each.Goals as goal
+
+pub f-requires : goal.f-requires
+f-requires g c =
+    CallableOnValues-here g.F.FnMut c.loop-index.f (g.S.Store.pairs c.loop-index.store) c.loop-index.index _ c.lm_pair_mut-value.ensures.pair
+    c.loop-index.invariant.callable _ _ refl refl
 
 pub returns-in-Err-clause-written : goal.returns-in-Err-clause-written
 returns-in-Err-clause-written g c =
@@ -55,7 +59,8 @@ loop-index-preserved g c =
     } in
     let inv = c.loop-index.invariant in
     rw (g.met.S.StoreMut.writes store i w) (record {
-      callable = mut_next g.F.FnMut f _ _ f' f' called.called refl inv.callable;
+      callable = subst (CallableOnValues g.F.FnMut f') (sym (drop-written pairs i w))
+          (CallableOnValues-after g.F.FnMut f pairs i p c.lm_pair_mut-value.ensures.pair inv.callable c.f.result f' q called);
       same_length = length-set_value pairs i w ∙ inv.same_length;
       room = g.met.S.StoreMut.keeps_room store i w ∙ inv.room;
       so_far = λ r. written_on (λ M. WrittenUntil g.F.FnMut c.args.f (g.S.Store.pairs c.args.store.now) M r) pairs i (λ L M. WrittenUntil g.F.FnMut f L M r)

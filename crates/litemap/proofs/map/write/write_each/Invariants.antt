@@ -1,5 +1,6 @@
 use Rattle.litemap.proofs.Common.{◌≡◌, List, ◌++◌, length, take, drop}
-use Rattle.litemap.specs.Written.{CallableOnValues, Written}
+use Rattle.litemap.specs.KeptWritten.{CallableOnValues}
+use Rattle.litemap.specs.Written.{Written}
 use Rattle.litemap.proofs.map.write.write_each.Given as goal
 
 abbrev pub invariant-loop-index : goal.invariant-loop-index

@@ -18,12 +18,12 @@ returns g c =
     let n : vec_len values ≡ length (zip keys.items values.items) = values.ok.0 ∙ sym even ∙ sym (length-zip_same keys.items values.items even) in (
       (
         refl,
-        λ w. (λ j. record { pairs = zip (ks j) (refill (n j) (vs j) w); room = min (vec_room keys) (vec_room values) })
-            ∙ ap (λ m. with_pairs m (set_values m.pairs w)) c.self.view_is,
+        λ w. (λ j. record { entries = zip (ks j) (refill (n j) (vs j) w); room = min (vec_room keys) (vec_room values) })
+            ∙ ap (λ m. with_pairs m (set_values m.entries w)) c.self.view_is,
       ),
       record {
         writes_back = tt;
-        keys = c.as_slice.ensures.value ∙ ks ∙ ap (λ m. keys_of m.pairs) c.self.view_is;
-        values = c.as_mut_slice.ensures.value ∙ vs ∙ ap (λ m. values_of m.pairs) c.self.view_is;
+        keys = c.as_slice.ensures.value ∙ ks ∙ ap (λ m. keys_of m.entries) c.self.view_is;
+        values = c.as_mut_slice.ensures.value ∙ vs ∙ ap (λ m. values_of m.entries) c.self.view_is;
       },
     )

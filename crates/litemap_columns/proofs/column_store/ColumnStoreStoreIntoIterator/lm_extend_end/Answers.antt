@@ -7,8 +7,8 @@ pub returns-in_default-clause-full : goal.returns-in_default-clause-full
 returns-in_default-clause-full g c =
     let keys = c.other.inside.keys in
     let values = c.other.inside.values in
-    let list : zip keys.items values.items ≡ c.args.other.pairs = ap (λ s. s.pairs) c.other.view_is in
-    let long : length c.args.other.pairs ≡ length keys.items =
+    let list : zip keys.items values.items ≡ c.args.other.entries = ap (λ s. s.entries) c.other.view_is in
+    let long : length c.args.other.entries ≡ length keys.items =
     sym (ap length list) ∙ length-zip_same keys.items values.items (same_length keys values c.other.invariant) in
     omega (arith, long, c.in_default.ensures.full, c.len.ensures, keys.ok.0)
 
@@ -18,7 +18,7 @@ returns-clause-ok g c =
     let values = c.self.inside.values in
     let new_keys = c.other.inside.keys in
     let new_values = c.other.inside.values in
-    let list : zip keys.items values.items ≡ c.args.self.now.pairs = ap (λ s. s.pairs) c.self.view_is ∙ c.lm_reserve.ensures.pairs in
-    let new_list : zip new_keys.items new_values.items ≡ c.args.other.pairs = ap (λ s. s.pairs) c.other.view_is in
+    let list : zip keys.items values.items ≡ c.args.self.now.entries = ap (λ s. s.entries) c.self.view_is ∙ c.lm_reserve.ensures.pairs in
+    let new_list : zip new_keys.items new_values.items ≡ c.args.other.entries = ap (λ s. s.entries) c.other.view_is in
     rw (c.append_reserved.ensures.items, c.append_reserved-2.ensures.items, ← list, ← new_list)
     (zip-joined keys.items new_keys.items values.items new_values.items (same_length keys values c.self.invariant))

@@ -18,7 +18,7 @@ returns g c =
       (
         refl,
         λ w. rw (← c.self.view_is)
-            (ap (λ L. record { pairs = L; room = min (vec_room keys) (vec_room values) }) (zip-set_value keys.items values.items c.args.index w)),
+            (ap (λ L. record { entries = L; room = min (vec_room keys) (vec_room values) }) (zip-set_value keys.items values.items c.args.index w)),
       ),
       record { writes_back = tt; pair = rw (← c.self.view_is) at },
     )

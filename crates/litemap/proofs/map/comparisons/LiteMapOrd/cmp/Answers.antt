@@ -10,14 +10,14 @@ pub unwrap-requires : goal.unwrap-requires
 unwrap-requires g c =
     rw (
       c.partial_cmp.ensures,
-      decided g.K.PartialOrd.partial_cmp g.V.PartialOrd.partial_cmp g.K.Ord.cmp g.V.Ord.cmp c.args.self.now.pairs c.args.other.now.pairs
+      decided g.K.PartialOrd.partial_cmp g.V.PartialOrd.partial_cmp g.K.Ord.cmp g.V.Ord.cmp c.args.self.now.entries c.args.other.now.entries
           g.met.K.Ord.matches_partial_cmp g.met.V.Ord.matches_partial_cmp,
     )
 
 pub returns : goal.returns
 returns g c =
     cc (
-      decided g.K.PartialOrd.partial_cmp g.V.PartialOrd.partial_cmp g.K.Ord.cmp g.V.Ord.cmp c.args.self.now.pairs c.args.other.now.pairs
+      decided g.K.PartialOrd.partial_cmp g.V.PartialOrd.partial_cmp g.K.Ord.cmp g.V.Ord.cmp c.args.self.now.entries c.args.other.now.entries
           g.met.K.Ord.matches_partial_cmp g.met.V.Ord.matches_partial_cmp,
       c.partial_cmp.ensures,
       c.unwrap.ensures,

@@ -20,8 +20,8 @@ loop-index-preserved g c =
 pub returns : goal.returns
 returns g c =
     rw (
-      drop_all c.loop-index.index c.args.self.now.pairs (omega arith),
-      drop_all c.loop-index.index c.args.other.now.pairs
+      drop_all c.loop-index.index c.args.self.now.entries (omega arith),
+      drop_all c.loop-index.index c.args.other.now.entries
           (omega arith),
     ) at c.loop-index.invariant
 

@@ -7,11 +7,11 @@ returns g c =
     let e = c.args.self in
     let put = c.in_ok-insert_at.ensures.put in
     let shown : Some c.value_in_mut.result.now ≡ Some c.args.value =
-    sym c.value_in_mut.ensures.value ∙ rw (put, e.missing.place) (put_value g.K.Ord.cmp e.map.now.pairs e.key c.args.value) in (
+    sym c.value_in_mut.ensures.value ∙ rw (put, e.missing.place) (put_value g.K.Ord.cmp e.map.now.entries e.key c.args.value) in (
       (
         refl,
         λ w ok. record {
-          pairs = ap (λ M. set_value M e.index w) put ∙ set_value-put g.K.Ord.cmp e.map.now.pairs e.key c.args.value w e.index e.missing.place;
+          pairs = ap (λ M. set_value M e.index w) put ∙ set_value-put g.K.Ord.cmp e.map.now.entries e.key c.args.value w e.index e.missing.place;
           room = c.in_ok-insert_at.ensures.refused.room;
           room_kept = λ absent. absurd (true≢false (sym absent));
         },
@@ -22,4 +22,4 @@ returns g c =
 
 pub value_in_mut-requires : goal.value_in_mut-requires
 value_in_mut-requires g c =
-    rw c.in_ok-insert_at.ensures.put (within-put g.K.Ord.cmp c.args.self.map.now.pairs c.args.self.key c.args.value c.args.self.index c.args.self.missing.place)
+    let e = c.args.self in rw c.in_ok-insert_at.ensures.put (within-put g.K.Ord.cmp e.map.now.entries e.key c.args.value e.index e.missing.place)

@@ -6,7 +6,7 @@ pub returns-in-Ok-clause-inserted : goal.returns-in-Ok-clause-inserted
 returns-in-Ok-clause-inserted g c =
     let e = c.args.self in
     let cmp = g.K.Ord.cmp in
-    let L = e.map.now.pairs in
+    let L = e.map.now.entries in
     let put = c.in-Ok.ensures.put in record {
       value = ap (λ M. value_in M e.index) put ∙ value-put cmp L e.key c.args.value e.index e.missing;
       same_key = ap (λ M. option_map (λ p. p.0) (slice_get M e.index)) put ∙ key-put cmp L e.key c.args.value e.index e.missing;

@@ -8,12 +8,12 @@ returns g c =
     let made = c.in-Ok.value in
     let put = c.in_default.ensures.put in
     let shown : Some c.value_in_mut.result.now ≡ Some made =
-    sym c.value_in_mut.ensures.value ∙ rw (put, e.missing.place) (put_value g.K.Ord.cmp e.map.now.pairs e.key made) in
+    sym c.value_in_mut.ensures.value ∙ rw (put, e.missing.place) (put_value g.K.Ord.cmp e.map.now.entries e.key made) in
     let same : c.value_in_mut.result.now ≡ made = ap (λ o. unwrap_or o made) shown in (
       (
         refl,
         λ w ok. record {
-          pairs = ap (λ M. set_value M e.index w) put ∙ set_value-put g.K.Ord.cmp e.map.now.pairs e.key made w e.index e.missing.place;
+          pairs = ap (λ M. set_value M e.index w) put ∙ set_value-put g.K.Ord.cmp e.map.now.entries e.key made w e.index e.missing.place;
           room = c.in_default.ensures.refused.room;
           room_kept = λ absent. absurd (true≢false (sym absent));
         },

@@ -1,7 +1,7 @@
 use Rattle.std.proofs.Common.{true, false, [], subst}
 use Rattle.litemap_store.specs.Retain.{CalledOnPair}
 use Rattle.litemap_store.proofs.Stores.Retaining.{CallableOnEach-first, Kept-more, Kept-none}
-use Rattle.litemap_short.proofs.storage.Storage+tuple2+K+V.retain.Goals as goal
+use Rattle.litemap_short.proofs.storage.Storage+tuple2+K+V+A.retain.Goals as goal
 
 pub is_kept-stays-requires : goal.is_kept-stays-requires
 is_kept-stays-requires g c =
