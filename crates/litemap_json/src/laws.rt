@@ -1,5 +1,5 @@
 //! Laws over the definitions of `specs/`. Each function does nothing: its contract is the law.
-ghost use Rattle.litemap_json.specs.Laws.{OneReading, OneReadingByText, TextReading};
+ghost use Rattle.litemap_json.specs.Laws.{OneName, OneReading, OneReadingByText, TextReading};
 
 use crate::item::{JsonItem, JsonKey};
 
@@ -20,4 +20,9 @@ pub fn one_reading_by_string<V: JsonItem>()
 /// (`OneName`): with `one_reading`, both have the same trees of keys and items, pair by pair.
 pub fn text_reading<K: JsonKey, V: JsonItem>()
     ensures { TextReading K.cmp K.key K.item V.item K.json V.json }
+{}
+
+/// Equal strings have one name, as `text_reading` asks of its keys.
+pub fn one_name_by_string()
+    ensures { OneName ⟦<String as Ord>⟧.cmp ⟦<String as JsonKey>⟧.key ⟦<String as JsonItem>⟧.json }
 {}
