@@ -1,8 +1,9 @@
 //! A map as any collection of the kit: in a struct that derives `Clone`, collected, indexed, changed in a loop that ends at an
 //! error, by index, and in a range of numbers; and a set of numbers. Nothing here has an attribute or a proof file.
-ghost use Rattle.std.specs.Prelude.{◌≡◌, not, remove, true};
+ghost use Rattle.std.specs.Prelude.{◌≡◌, ◌*◌, not, remove, true};
 ghost use Rattle.litemap.specs.Words.{Excluded, IfOk, Included, IsEmpty, IsSome, Last, OnErr, OnOk, PairsBecame, Some};
 ghost use Rattle.litemap.specs.Words.{get_by_text, keys, length, nat_cmp, slice_get, string_bytes, within};
+ghost use Rattle.litemap.specs.Written.{Relates};
 ghost use Rattle.litemap_set.specs.Sets.{contains};
 
 use litemap::VecMap;
@@ -49,7 +50,9 @@ pub fn limit_of(limits: &VecMap<String, u32>, name: &str) -> u32
 
 /// Doubles limits up to the first one that has no double.
 pub fn double_all(limits: &mut VecMap<String, u32>) -> Result<(), TooLarge>
-    ensures { keys limits.new ≡ keys limits.old }
+    ensures keys { keys limits.new ≡ keys limits.old }
+    ensures doubled { (name : _) → OnOk result (Relates (λ limit double. double ≡ limit * 2)
+        (get_by_text limits.old name) (get_by_text limits.new name)) }
 {
     limits.try_update(|_, limit| match limit.checked_mul(2) {
         Some(double) => {

@@ -120,7 +120,7 @@ module _ {K Q : Type 0} (order : K → Q → Ordering) where
       finds_between {cmp} respects =
           let parts = keeps_part (λ p. keep p.0) L M part in
           record {
-            stays = λ k h. ap (option_map (λ p. p.1)) (parts.stays (λ p. is_eq (cmp p.0 k))
+            stays = λ k h. ap (option_map (λ p. p.1)) (parts.stays.found (λ p. is_eq (cmp p.0 k))
                 (λ p t. keep_alike respects p.0 k (equal_from_is_eq (cmp p.0 k) t) ∙ kept_between k h));
             gone = λ k n. ap (option_map (λ p. p.1)) (parts.gone (λ p. is_eq (cmp p.0 k))
                 (λ p t. keep_alike respects p.0 k (equal_from_is_eq (cmp p.0 k) t) ∙ dropped k n));

@@ -1,16 +1,54 @@
--- For callers whose closure changes values in place that are collections, by `update` or `retain_mut`: what lookups find then.
+-- For callers whose closure changes values in place, by `update`, `try_update` or `retain_mut`: what lookups find then.
 --     left_found      what holds of each value that the closure leaves holds of the one that is found
 --     related_found      what the closure leaves of a value is related to that, and so is what is found to what was found
+--     tried_found      the same of a closure that may return an error, if none was returned
 --     kept_found, kept_related, kept_by_text      the same of a closure that says which stay; the last of strings that are looked up by strings
-use Rattle.litemap.proofs.Common.{◌≡◌, [], ◌∷◌, Bool, true, false, BelowAll, Equal, Less, List, None, Ordering, Rising, String, ap, cond, is_eq}
-use Rattle.litemap.proofs.Common.{equal_from_is_eq, key_same, refl, string_cmp, sym, subst, Bor, MutBor, Mut, ℕ, value_at}
+use Rattle.litemap.proofs.Common.{◌≡◌, ◌∙◌, ◌∷◌, [], Bool, true, false, Err, Equal, List, None, Ok, OnOk, Ordering, Result, Rising, String, ap}
+use Rattle.litemap.proofs.Common.{cond, equal_from_is_eq, is_eq, key_same, on_ok_weaker, refl, string_cmp, sym, subst, Bor, MutBor, Mut, ℕ, value_at}
 use Rattle.std.proofs.Common.{IfSome, Option, Some}
+use Rattle.std.specs.Result.{MatchResult}
 use Rattle.litemap_store.specs.Queries.{by_string}
 use Rattle.litemap.specs.KeptWritten.{KeepsOf, KeepsOrDrops, KeptWritten, LeavesPair}
 use Rattle.litemap.proofs.KeptWriting.{each-kept}
 use Rattle.litemap.proofs.Keys.{none_above}
 use Rattle.litemap.proofs.Texts.{same_bytes}
+use Rattle.litemap.proofs.TryWriting.{always_ok}
+use Rattle.litemap.specs.TryWritten.{WrittenUntil}
 use Rattle.litemap.specs.Written.{LeavesOf, Relates, WritesPair, Written}
+
+module _ {K Q V : Type 0} (order : K → Q → Ordering) (q : Q) (R : V → V → Type 0) where
+  -- the first value became w, which R relates to it, and the rest became N
+  related-first : (p : K × V) (w : V) (L M N : List (K × V)) → M ≡ (p.0, w) ∷ N → R p.1 w → Relates R (value_at order L q) (value_at order N q)
+      → Relates R (value_at order (p ∷ L) q) (value_at order M q)
+  related-first p w L M N is v rest = by (is_eq (order p.0 q)) refl
+    where
+      by : (c : Bool) → is_eq (order p.0 q) ≡ c → Relates R (value_at order (p ∷ L) q) (value_at order M q)
+      by true t = rw is (rw t v)
+      by false t = rw is (rw t rest)
+
+module _ {F K Q V E : Type 0} (g : Mut F (Bor K × (MutBor V × Unit {0})) (Result (Unit {0}) E × (MutBor V × Unit {0})))
+    (order : K → Q → Ordering) (q : Q) where
+  module _ (R : V → V → Type 0) where
+    abbrev Tries : F → Type 0
+    Tries f = (p x : K × V) (r : Result (Unit {0}) E) (f' : F) → LeavesPair g f p r f' x → (f' ≡ f) × OnOk r (R p.1 x.1)
+
+    tried : (L M : List (K × V)) (r : Result (Unit {0}) E) (f : F) → Tries f → WrittenUntil g f L M r
+        → OnOk r (Relates R (value_at order L q) (value_at order M q))
+    tried [] M r f a w = always_ok g r (rw w.0 tt)
+    tried (p ∷ L) M r f a (x, f', s, c, rest) =
+        let one = a p x s f' c in
+        (elim s as (λ s. OnOk s (R p.1 x.1) → MatchResult s (λ _. (N : List (K × V)) × WrittenUntil g f' L N r × (M ≡ x ∷ N)) (λ e. (r ≡ Err e) × (M ≡ x ∷ L))
+        → OnOk r (Relates R (value_at order (p ∷ L) q) (value_at order M q))) [
+          | Ok u ↦ λ v h. on_ok_weaker r
+              (related-first order q R p c.left.now L M h.0 (h.2 ∙ ap (λ y. y ∷ h.0) c.leaves) (subst (λ (y : K × V). R p.1 y.1) c.leaves v))
+              (tried L h.0 r f' (subst (λ e. Tries e) (sym one.0) a) h.1)
+          | Err e ↦ λ v h. subst (λ o. OnOk o (Relates R (value_at order (p ∷ L) q) (value_at order M q))) (sym h.0) tt
+        ]) one.1 rest
+
+  pub tried_found : {f : F} (L M : List (K × V)) (r : Result (Unit {0}) E) (R : V → V → Type 0) → WrittenUntil g f L M r
+      → ((p x : K × V) (r : Result (Unit {0}) E) (f' : F) → LeavesPair g f p r f' x → (f' ≡ f) × OnOk r (R p.1 x.1))
+      → OnOk r (Relates R (value_at order L q) (value_at order M q))
+  tried_found {f} L M r R w a = tried R L M r f a w
 
 module _ {F K Q V : Type 0} (g : Mut F (Bor K × (MutBor V × Unit {0})) (Unit {0} × (MutBor V × Unit {0}))) (order : K → Q → Ordering) (q : Q) where
   module _ (R : V → V → Type 0) where
@@ -21,12 +59,8 @@ module _ {F K Q V : Type 0} (g : Mut F (Bor K × (MutBor V × Unit {0})) (Unit {
     written-related [] M f a w = rw w tt
     written-related (p ∷ L) M f a w =
         let one = a p w.0 w.1 w.3 in
-        by (is_eq (order p.0 q)) refl one.1 (written-related L w.2 w.1 (subst (λ e. Leaves e) (sym one.0) a) w.4)
-      where
-        by : (c : Bool) → is_eq (order p.0 q) ≡ c → R p.1 w.0.1 → Relates R (value_at order L q) (value_at order w.2 q)
-            → Relates R (value_at order (p ∷ L) q) (value_at order M q)
-        by true t v rest = let r : R p.1 w.3.left.now = subst (λ (x : K × V). R p.1 x.1) w.3.leaves v in rw (w.5, w.3.leaves) (rw t r)
-        by false t v rest = rw (w.5, w.3.leaves) (rw t rest)
+        related-first order q R p w.3.left.now L M w.2 (w.5 ∙ ap (λ x. x ∷ w.2) w.3.leaves) (subst (λ (x : K × V). R p.1 x.1) w.3.leaves one.1)
+        (written-related L w.2 w.1 (subst (λ e. Leaves e) (sym one.0) a) w.4)
 
   pub related_found : {f : F} {L M : List (K × V)} (R : V → V → Type 0) → LeavesOf g f L M
       → ((p x : K × V) (f' : F) → WritesPair g f p x f' → (f' ≡ f) × R p.1 x.1) → Relates R (value_at order L q) (value_at order M q)
@@ -97,6 +131,6 @@ module _ {F V Z : Type 0} (g : Mut F (Bor (String Z) × (MutBor V × Unit {0})) 
       → KeepsOrDrops R D (value_at by_string L t) (value_at by_string M t)
   kept_by_text {f} {L} {M} R D w a = kept-related g by_string t string_cmp (same_bytes t) R D L M f w.rising a w.in_turn
 
-pub ruleset values_left = (related_found, left_found)
+pub ruleset values_left = (related_found, left_found, tried_found)
 
 pub ruleset values_kept = (kept_found, kept_related, kept_by_text)

@@ -14,17 +14,16 @@ use Rattle.std.specs.Option.{option_copied}
 use Rattle.std.specs.List.Retain.{ReturnsInTurn}
 use Rattle.std.proofs.lemmas.List.Folds.{find-append}
 use Rattle.std.proofs.lemmas.List.{take-append-drop}
-use Rattle.std.proofs.lemmas.Map.Lookups.{exact_bytes}
 use Rattle.litemap_store.specs.Last.{In}
 use Rattle.litemap_store.specs.Retain.{CalledOnPair, Kept}
 use Rattle.litemap_store.proofs.Last.KeepLast.{rising_across}
 use Rattle.litemap_store.proofs.Lists.Membership.{In-from_filter, In-right, each, from_each}
 use Rattle.litemap.specs.Retained.{Retains, ReturnsFor}
-use Rattle.litemap.specs.Updates.{IsGreatest, IsLeast, KeepsPart, TakesPair}
+use Rattle.litemap.specs.Updates.{IsGreatest, IsLeast, KeepsPart, Stays, TakesPair}
 use Rattle.litemap.specs.Written.{LeavesOf, WritesPair, Written}
 use Rattle.litemap_store.specs.Queries.{key_respects}
 use Rattle.litemap.proofs.MergedTests.{none_found}
-use Rattle.litemap.proofs.Updating.{keys_stay}
+use Rattle.litemap.proofs.Updating.{keys_stay, stay}
 use Rattle.litemap.proofs.Ends.{at-index, greatest, least}
 
 module _ {X : Type 0} (test : X → Bool) where
@@ -67,9 +66,8 @@ module _ {X : Type 0} (test : X → Bool) where
 -- the same with a test that is equal for each pair
 pub keeps_alike : {K V : Type 0} (keep keep' : K × V → Bool) (L M : List (K × V)) → ((p : K × V) → keep p ≡ keep' p) → M ≡ filter keep L → KeepsPart keep' L M
 keeps_alike keep keep' L M same e = record {
-  stays = λ test h. ap (find test) e ∙ find-kept test keep (λ x t. same x ∙ h x t) L;
+  stays = stay (λ test h. ap (find test) e ∙ find-kept test keep (λ x t. same x ∙ h x t) L);
   gone = λ test h. ap (find test) e ∙ find-dropped test keep (λ x t. same x ∙ h x t) L;
-  exact = exact_bytes;
 }
 
 pub and_true : (b : Bool) → b && true ≡ b
@@ -78,9 +76,8 @@ and_true false = refl
 
 pub keeps_part : {K V : Type 0} (keep : K × V → Bool) (L M : List (K × V)) → M ≡ filter keep L → KeepsPart keep L M
 keeps_part keep L M e = record {
-  stays = λ test h. ap (find test) e ∙ find-kept test keep h L;
+  stays = stay (λ test h. ap (find test) e ∙ find-kept test keep h L);
   gone = λ test h. ap (find test) e ∙ find-dropped test keep h L;
-  exact = exact_bytes;
 }
 
 module _ {K V : Type 0} {cmp : K → K → Ordering} (o : IsTotalOrder cmp) (A B : List (K × V)) (p : K × V) (r : Rising cmp (A ++ p ∷ B)) where
@@ -111,11 +108,10 @@ module _ {K V : Type 0} {cmp : K → K → Ordering} (o : IsTotalOrder cmp) (A B
     gone = gone-between (λ x. is_eq (cmp x.0 p.0)) (λ x t. equal_from_is_eq (cmp x.0 p.0) t);
     others = others;
     keys = keys_stay (key_respects o) p.0 (A ++ p ∷ B) (A ++ B) others;
-    exact = exact_bytes;
   }
     where
-      others : (test : K × V → Bool) → ((x : K × V) → cmp x.0 p.0 ≡ Equal → test x ≡ false) → find test (A ++ B) ≡ find test (A ++ p ∷ B)
-      others test apart = find-append test A B ∙ sym (find-append test A (p ∷ B) ∙ rw (apart p (tied_itself o p.0)) refl)
+      others : Stays (λ test. (x : K × V) → cmp x.0 p.0 ≡ Equal → test x ≡ false) (A ++ p ∷ B) (A ++ B)
+      others = stay (λ test apart. find-append test A B ∙ sym (find-append test A (p ∷ B) ∙ rw (apart p (tied_itself o p.0)) refl))
 
 module _ {K V : Type 0} {cmp : K → K → Ordering} (o : IsTotalOrder cmp) (L : List (K × V)) (p : K × V) (r : Rising cmp L) where
   pub takes_at : (i : ℕ) → slice_get L i ≡ Some p → TakesPair cmp p L (remove L i)
@@ -253,11 +249,10 @@ module _ {F K V : Type 0} (g : Mut F (Bor K × (Bor V × Unit {0})) Bool) (test 
 pub retains : {F K V : Type 0} (g : Mut F (Bor K × (Bor V × Unit {0})) Bool) (cmp : K → K → Ordering) (f : F) (L L' M : List (K × V)) → Kept g f L M → L ≡ L'
     → Rising cmp L → Retains g f cmp L' M
 retains g cmp f L L' M kept is r = record {
-  stays = λ test a. ap (find test) (kept.4) ∙ kept-stays g test kept.0 L f kept.1 kept.2 kept.3 (subst (λ N. ReturnsFor g f test N true) (sym is) a)
-      ∙ ap (find test) is;
+  stays = stay (λ test a. ap (find test) (kept.4) ∙ kept-stays g test kept.0 L f kept.1 kept.2 kept.3 (subst (λ N. ReturnsFor g f test N true) (sym is) a)
+      ∙ ap (find test) is);
   gone = λ test own a. ap (find test) (kept.4) ∙ kept-gone g test cmp own kept.0 L f kept.1 kept.2 r kept.3
       (subst (λ N. ReturnsFor g f test N false) (sym is) a);
-  exact = exact_bytes;
 }
 
 -- ---- what a closure wrote

@@ -22,7 +22,7 @@ module _ {F K V : Type 0} (g : Mut F (Bor K × (Bor V × Unit {0})) Bool) (f : F
   for_test b a = λ p c f' called. ((a p c f' called).0, λ t is. (a p c f' called).1 (equal_from_is_eq _ t) is)
 
   pub value_at-stays : ReturnsAt g f cmp L k true → value_at cmp M k ≡ value_at cmp L k
-  value_at-stays a = ap (option_map (λ p. p.1)) (kept.stays (λ p. is_eq (cmp p.0 k)) (for_test true a))
+  value_at-stays a = ap (option_map (λ p. p.1)) (kept.stays.found (λ p. is_eq (cmp p.0 k)) (for_test true a))
 
   pub value_at-gone : ReturnsAt g f cmp L k false → value_at cmp M k ≡ None
   value_at-gone a = ap (option_map (λ p. p.1)) (kept.gone (λ p. is_eq (cmp p.0 k)) (λ p q s t.

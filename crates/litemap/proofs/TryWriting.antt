@@ -23,7 +23,7 @@ module _ {F K V E : Type 0} (g : Mut F (Bor K × (MutBor V × Unit {0})) (Result
         | Err e ↦ λ h. ap keys_of h.1 ∙ ap (λ k. k ∷ keys_of L) (ap (λ x. x.0) c.leaves)
       ]) rest
 
-  always_ok : (r : Result (Unit {0}) E) {P : Type 0} → P → OnOk r P
+  pub always_ok : (r : Result (Unit {0}) E) {P : Type 0} → P → OnOk r P
   always_ok (Ok u) p = p
   always_ok (Err e) p = tt
 

@@ -24,7 +24,11 @@ use Rattle.litemap_store.proofs.Callers.Lookups.{below-above, below-below}
 use Rattle.litemap_store.proofs.Callers.Tallies.{value_at_equal}
 use Rattle.litemap_store.proofs.Search.Splitting.{found_at, not_is_eq}
 use Rattle.litemap_store.specs.Queries.{Respects, key_one_side}
-use Rattle.litemap.specs.Updates.{Finds, KeepsPart, KeysStay, Places, Updates}
+use Rattle.litemap.specs.Updates.{Finds, KeepsPart, KeysStay, Places, Stays, Updates}
+
+pub stay : {X : Type 0} {apart : (X → Bool) → Type 0} {before after : List X}
+    → ((test : X → Bool) → apart test → find test after ≡ find test before) → Stays apart before after
+stay found = record { found = found; exact = exact_bytes }
 
 length-between : {X : Type 0} (A B : List X) (x : X) → length (A ++ x ∷ B) ≡ length (A ++ B) + 1
 length-between A B x = omega (arith, length-append A B, length-append A (x ∷ B))
@@ -97,7 +101,7 @@ module _ {K Q V : Type 0} (order : K → Q → Ordering) (q : Q) where
       (below-below order q L) ∙ ap (λ M. below order L q ++ M) none ∙ append-nil (below order L q))
 
   pub finds_cut : (L : List (K × V)) (r : Result ℕ ℕ) → Splits order L q r → Finds order q None L (cut order L q)
-  finds_cut L r s = record { found = value_at-cut order q L; others = others-cut L r s; exact = exact_bytes }
+  finds_cut L r s = record { found = value_at-cut order q L; others = stay (others-cut L r s) }
 
   pub places_cut : (L : List (K × V)) (r : Result ℕ ℕ) → Splits order L q r → Places order q None L (cut order L q)
   places_cut L r s = record { index = index-by (cut order L q) (place order L q) None (value_at-cut order q L) (place-cut L); len = len-cut L r s }
@@ -108,24 +112,22 @@ module _ {K Q V : Type 0} (order : K → Q → Ordering) (q : Q) where
       let e : write order L q v ≡ below order L q ++ x ∷ above order L q =
       ap (λ o. option_map_or (λ p. below order L q ++ (p.0, v) ∷ above order L q) o L) s.found in record {
         found = value_at-write order q L v (subst (λ o. IsSome o) (sym s.found) refl);
-        others = λ test apart. ap (find test) e ∙ others-between L x s.equal (Ok i) s test apart;
-        exact = exact_bytes;
+        others = stay (λ test apart. ap (find test) e ∙ others-between L x s.equal (Ok i) s test apart);
       }
 
 -- in a part whose keys pass a test that equal keys pass alike
 module _ {K V : Type 0} {cmp : K → K → Ordering} (keep : K → Bool) (alike : (x y : K) → cmp x y ≡ Equal → keep x ≡ keep y) (L M : List (K × V))
     (part : KeepsPart (λ p. keep p.0) L M) (k : K) where
   pub value_at-part : keep k ≡ true → value_at cmp M k ≡ value_at cmp L k
-  value_at-part e = ap (option_map (λ p. p.1)) (part.stays (λ p. is_eq (cmp p.0 k)) (λ p t. alike p.0 k (equal_from_is_eq _ t) ∙ e))
+  value_at-part e = ap (option_map (λ p. p.1)) (part.stays.found (λ p. is_eq (cmp p.0 k)) (λ p t. alike p.0 k (equal_from_is_eq _ t) ∙ e))
 
   pub value_at-no_part : keep k ≡ false → value_at cmp M k ≡ None
   value_at-no_part e = ap (option_map (λ p. p.1)) (part.gone (λ p. is_eq (cmp p.0 k)) (λ p t. alike p.0 k (equal_from_is_eq _ t) ∙ e))
 
 module _ {K Q V : Type 0} {cmp : K → K → Ordering} {order : K → Q → Ordering} (respects : Respects cmp order) (q : Q) where
   -- of a query that changes no other one's pair
-  pub keys_stay : (L M : List (K × V)) → ((test : K × V → Bool) → ((p : K × V) → order p.0 q ≡ Equal → test p ≡ false) → find test M ≡ find test L)
-      → KeysStay cmp order q L M
-  keys_stay L M others k n = ap (option_map (λ p. p.1)) (others (λ p. is_eq (cmp p.0 k))
+  pub keys_stay : (L M : List (K × V)) → Stays (λ test. (p : K × V) → order p.0 q ≡ Equal → test p ≡ false) L M → KeysStay cmp order q L M
+  keys_stay L M others k n = ap (option_map (λ p. p.1)) (others.found (λ p. is_eq (cmp p.0 k))
       (λ p e. not_is_eq (cmp p.0 k) (λ t. let same : order p.0 q ≡ order k q = respects q p.0 k t in absurd (cc))))
 
 module _ {K V : Type 0} {cmp : K → K → Ordering} (o : IsTotalOrder cmp) (L : List (K × V)) (k : K) (v : V) where
@@ -137,8 +139,7 @@ module _ {K V : Type 0} {cmp : K → K → Ordering} (o : IsTotalOrder cmp) (L :
   finds_put : (r : Result ℕ ℕ) → Splits cmp L k r → Finds cmp k (Some v) L (put cmp L k v)
   finds_put r s = record {
     found = value_at-put o k L v;
-    others = others-between cmp k L (key_or (at cmp L k) k, v) (key_or_equal o k L) r s;
-    exact = exact_bytes;
+    others = stay (others-between cmp k L (key_or (at cmp L k) k, v) (key_or_equal o k L) r s);
   }
 
   pub updates_put : (r : Result ℕ ℕ) → Splits cmp L k r → Updates cmp k (Some v) L (put cmp L k v)

@@ -1,11 +1,10 @@
 -- What a closure returns for the pair that a query finds, and what lookups find in the pairs that it keeps.
-use Rattle.std.specs.Prelude.{◌≡◌, ℕ, Bool, true, false, List, None, Some, find}
-use Rattle.std.specs.Cmp.Lexicographic.{slice_cmp}
-use Rattle.std.specs.Ordering.{nat_cmp}
+use Rattle.std.specs.Prelude.{◌≡◌, Bool, true, false, List, None, Some, find}
 use Rattle.std.specs.declared.cmp.Ordering.{Ordering}
 use Rattle.std.specs.declared.cmp.Ordering.TheVariants.{Equal}
 use Rattle.litemap_store.specs.Pairs.{at}
 use Rattle.litemap_store.specs.Retain.{CalledOnPair}
+use Rattle.litemap.specs.Updates.{Stays}
 use denote.Param.Members.{Mut}
 use denote.Ref.{Bor}
 
@@ -22,6 +21,5 @@ module _ {F K V : Type 0} (g : Mut F (Bor K × (Bor V × Unit {0})) Bool) (f : F
 
   -- a query finds in M what it finds in L if f returns true for that; nothing if f returns false, and the query is of one key
   pub record Retains (cmp : K → K → Ordering) (L M : List (K × V)) : Type 0 where
-    pub stays : (test : K × V → Bool) → ReturnsFor test L true → find test M ≡ find test L
+    pub stays : Stays (λ test. ReturnsFor test L true) L M
     pub gone : (test : K × V → Bool) → ((p q : K × V) → test p ≡ true → test q ≡ true → cmp p.0 q.0 ≡ Equal) → ReturnsFor test L false → find test M ≡ None
-    pub exact : (x y : List ℕ) → slice_cmp nat_cmp x y ≡ Equal → x ≡ y

@@ -8,13 +8,16 @@ use Rattle.std.specs.declared.cmp.Ordering.{Ordering}
 use Rattle.std.specs.declared.cmp.Ordering.TheVariants.{Equal, Greater}
 use Rattle.litemap_store.specs.Pairs.{at, cut, index_of, place, value_at}
 
--- the query q finds w (`None`: nothing), and each other one what it found before
-pub record Finds {K Q V : Type 0} (order : K → Q → Ordering) (q : Q) (w : Option V) (before after : List (K × V)) : Type 0 where
-  pub found : value_at order after q ≡ w
-  -- `test` is any query, by any order: one that finds no key that q finds
-  pub others : (test : K × V → Bool) → ((p : K × V) → order p.0 q ≡ Equal → test p ≡ false) → find test after ≡ find test before
+-- each query that passes `apart`, by any order, finds what it found before
+pub record Stays {X : Type 0} (apart : (X → Bool) → Type 0) (before after : List X) : Type 0 where
+  pub found : (test : X → Bool) → apart test → find test after ≡ find test before
   -- a law of strings and bytes, by which a caller's search tells two of them apart: it is not of this map
   pub exact : (x y : List ℕ) → slice_cmp nat_cmp x y ≡ Equal → x ≡ y
+
+-- the query q finds w (`None`: nothing), and each one that finds no key that q finds what it found before
+pub record Finds {K Q V : Type 0} (order : K → Q → Ordering) (q : Q) (w : Option V) (before after : List (K × V)) : Type 0 where
+  pub found : value_at order after q ≡ w
+  pub others : Stays (λ test. (p : K × V) → order p.0 q ≡ Equal → test p ≡ false) before after
 
 -- each key that q doesn't find finds what it found before
 abbrev pub KeysStay : {K Q V : Type 0} → (K → K → Ordering) → (K → Q → Ordering) → Q → List (K × V) → List (K × V) → Type 0
@@ -39,10 +42,8 @@ pub record MovesPlace {K Q V : Type 0} (order : K → Q → Ordering) (q : Q) (c
 pub record Moves {K Q V : Type 0} (order : K → Q → Ordering) (q : Q) (cmp : K → K → Ordering) (key : K) (before after : List (K × V)) : Type 0 where
   pub found : IsSome (at order before q) → value_at cmp after key ≡ value_at order before q
   pub gone : ((p : K × V) → cmp p.0 key ≡ Equal → is_eq (order p.0 q) ≡ false) → value_at order after q ≡ None
-  pub others : (test : K × V → Bool) → ((p : K × V) → order p.0 q ≡ Equal → test p ≡ false)
-      → ((p : K × V) → cmp p.0 key ≡ Equal → test p ≡ false) → find test after ≡ find test before
+  pub others : Stays (λ test. ((p : K × V) → order p.0 q ≡ Equal → test p ≡ false) × ((p : K × V) → cmp p.0 key ≡ Equal → test p ≡ false)) before after
   pub keys : (k : K) → is_eq (order k q) ≡ false → is_eq (cmp k key) ≡ false → value_at cmp after k ≡ value_at cmp before k
-  pub exact : (x y : List ℕ) → slice_cmp nat_cmp x y ≡ Equal → x ≡ y
 
 -- the test of a query that finds a key, and those equal to it and no other
 abbrev pub IsKeyTest : {K V : Type 0} → (K → K → Ordering) → (K × V → Bool) → Type 0
@@ -52,7 +53,6 @@ IsKeyTest {K} {V} cmp test = (x y : K × V) → test x ≡ true → test y ≡ i
 pub record Overlays {K V : Type 0} (cmp : K → K → Ordering) (A B M : List (K × V)) : Type 0 where
   pub all : (test : K × V → Bool) → IsKeyTest cmp test
       → option_map (λ p. p.1) (find test M) ≡ option_or (option_map (λ p. p.1) (find test B)) (option_map (λ p. p.1) (find test A))
-  pub exact : (x y : List ℕ) → slice_cmp nat_cmp x y ≡ Equal → x ≡ y
 
 -- a query finds in D what it finds in A if it finds something in B, else nothing
 pub record Displaces {K V : Type 0} (cmp : K → K → Ordering) (A B D : List (K × V)) : Type 0 where
@@ -68,18 +68,16 @@ pub record NoCommon {K V : Type 0} (cmp : K → K → Ordering) (A B : List (K �
 -- M is the part of L that passes `keep`: a query whose pairs all pass finds what it found before, one whose pairs all fail
 -- nothing
 pub record KeepsPart {K V : Type 0} (keep : K × V → Bool) (L M : List (K × V)) : Type 0 where
-  pub stays : (test : K × V → Bool) → ((p : K × V) → test p ≡ true → keep p ≡ true) → find test M ≡ find test L
+  pub stays : Stays (λ test. (p : K × V) → test p ≡ true → keep p ≡ true) L M
   pub gone : (test : K × V → Bool) → ((p : K × V) → test p ≡ true → keep p ≡ false) → find test M ≡ None
-  pub exact : (x y : List ℕ) → slice_cmp nat_cmp x y ≡ Equal → x ≡ y
 
 module _ {K V : Type 0} (cmp : K → K → Ordering) (p : K × V) where
   -- the pair p is taken out: its key found it, and finds nothing now; each other query finds what it found before
   pub record TakesPair (before after : List (K × V)) : Type 0 where
     pub found : at cmp before p.0 ≡ Some p
     pub gone : at cmp after p.0 ≡ None
-    pub others : (test : K × V → Bool) → ((x : K × V) → cmp x.0 p.0 ≡ Equal → test x ≡ false) → find test after ≡ find test before
+    pub others : Stays (λ test. (x : K × V) → cmp x.0 p.0 ≡ Equal → test x ≡ false) before after
     pub keys : KeysStay cmp cmp p.0 before after
-    pub exact : (x y : List ℕ) → slice_cmp nat_cmp x y ≡ Equal → x ≡ y
 
   -- no key that is found in the list is below that of p, or none is above
   abbrev pub IsLeast : List (K × V) → Type 0

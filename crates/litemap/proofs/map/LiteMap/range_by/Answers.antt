@@ -1,5 +1,5 @@
 use Rattle.litemap.proofs.Common.{rules}
-use Rattle.litemap.proofs.Bounded.{are_between, finds_between}
+use Rattle.litemap.proofs.Bounded.{finds_between}
 use Rattle.litemap.proofs.Queried.{keeps_part}
 use Rattle.litemap.proofs.map.LiteMap.range_by.Goals as goal
 
@@ -8,9 +8,6 @@ returns-clause-pairs g c = search rules
 
 pub returns-clause-stays : goal.returns-clause-stays
 returns-clause-stays g c bounds = keeps_part _ c.args.self.now.entries c.range.result.entries (returns-clause-pairs g c bounds)
-
-pub returns-clause-inside : goal.returns-clause-inside
-returns-clause-inside g c bounds = are_between _ _ _ c.args.self.now.entries c.range.result.entries (returns-clause-pairs g c bounds)
 
 pub returns-clause-keys : goal.returns-clause-keys
 returns-clause-keys g c bounds =
