@@ -109,10 +109,7 @@ impl<K: Ord, V, S: StoreSlice<K, V>> LiteMap<K, V, S> {
         // What lookups find in it.
         ensures stays { KeepsPart (λ p. not (is_before Q.order (bound_map Q.sought from) p.0)
             && is_up_to Q.order (bound_map Q.sought to) p.0) self.now.entries result.entries }
-        // The same by keys: a caller's proof needs no law of their order.
         ensures inside { AreBetween Q.order (bound_map Q.sought from) (bound_map Q.sought to) result.entries }
-        ensures keys { FindsBetween K.cmp Q.order (bound_map Q.sought from) (bound_map Q.sought to)
-            self.now.entries result.entries }
         // Each pair of it is what its key finds in the whole map.
         ensures found { All (λ p. at K.cmp self.now.entries p.0 ≡ Some p) result.entries }
     {
@@ -133,6 +130,7 @@ impl<K: Ord, V, S: StoreSlice<K, V>> LiteMap<K, V, S> {
             ≡ within K.cmp self.now.entries (R.start_bound range) (R.end_bound range) }
         ensures stays { R.has_bounds range → KeepsPart (λ p. not (is_before K.cmp (R.start_bound range) p.0)
             && is_up_to K.cmp (R.end_bound range) p.0) self.now.entries result.entries }
+        // The same by keys: a caller's proof needs no law of their order.
         ensures inside { R.has_bounds range
             → AreBetween K.cmp (R.start_bound range) (R.end_bound range) result.entries }
         ensures keys { R.has_bounds range → FindsBetween K.cmp K.cmp (R.start_bound range) (R.end_bound range)

@@ -1,6 +1,6 @@
 use Rattle.std.proofs.lemmas.List.Elements.{All-from_recursion}
 use Rattle.litemap.proofs.Common.{rules}
-use Rattle.litemap.proofs.Bounded.{are_between, finds_between}
+use Rattle.litemap.proofs.Bounded.{are_between}
 use Rattle.litemap.proofs.Queried.{kept_found, keeps_part}
 use Rattle.litemap.proofs.map.LiteMap.range.Goals as goal
 
@@ -12,10 +12,6 @@ returns-clause-stays g c = keeps_part _ c.args.self.now.entries c.unwrap.result.
 
 pub returns-clause-inside : goal.returns-clause-inside
 returns-clause-inside g c = are_between _ _ _ c.args.self.now.entries c.unwrap.result.entries (returns-clause-pairs g c)
-
-pub returns-clause-keys : goal.returns-clause-keys
-returns-clause-keys g c =
-    finds_between _ _ _ c.args.self.now.entries c.unwrap.result.entries (returns-clause-pairs g c) g.met.Q.Query.respects
 
 pub returns-clause-found : goal.returns-clause-found
 returns-clause-found g c = All-from_recursion _ _
