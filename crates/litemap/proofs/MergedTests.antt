@@ -6,6 +6,7 @@ use Rattle.litemap.proofs.Common.{Ordering, IsTotalOrder, Merge, at, key_alike, 
 use Rattle.std.specs.Prelude.{◌↔◌, IsNone, if◌then◌else◌}
 use Rattle.std.proofs.Common.{find}
 use Rattle.litemap_store.specs.Last.{In, Last}
+use Rattle.std.proofs.lemmas.Map.Lookups.{exact_bytes}
 use Rattle.litemap.specs.Updates.{Displaces, IsKeyTest, NoCommon, Overlays}
 use Rattle.litemap_store.proofs.Callers.LastLookups.{value_at-last_of_more}
 use Rattle.litemap_store.proofs.Names.{IfSome}
@@ -57,6 +58,7 @@ module _ {K V : Type 0} (cmp : K → K → Ordering) (o : IsTotalOrder cmp) wher
   overlays A B M merge = record {
     all = λ test key. by_keys cmp test key A B M (λ a b _. option_or b a)
         (λ x. value_at-merged cmp o cmp x.0 (key_same o x.0) (key_alike o x.0) A B M merge) refl;
+    exact = exact_bytes;
   }
 
   -- more pairs, of which the last of each key counts
@@ -64,6 +66,7 @@ module _ {K V : Type 0} (cmp : K → K → Ordering) (o : IsTotalOrder cmp) wher
   overlays_last L J M last r = record {
     all = λ test key. by_keys cmp test key L (reverse J) M (λ a b _. option_or b a)
         (λ x. value_at-last_of_more cmp o cmp x.0 (key_same o x.0) (key_alike o x.0) L J M last r) refl;
+    exact = exact_bytes;
   }
 
   displaces : (A B : List (K × V)) → Displaces cmp A B (left cmp A B)

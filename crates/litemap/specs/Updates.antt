@@ -8,11 +8,14 @@ use Rattle.std.specs.declared.cmp.Ordering.{Ordering}
 use Rattle.std.specs.declared.cmp.Ordering.TheVariants.{Equal, Greater}
 use Rattle.litemap_store.specs.Pairs.{at, cut, index_of, place, value_at}
 
+-- a law of strings and bytes, and not of this map: by it a caller's search tells two of them apart
+abbrev pub ExactBytes : Type 0
+ExactBytes = (x y : List ℕ) → slice_cmp nat_cmp x y ≡ Equal → x ≡ y
+
 -- each query that passes `apart`, by any order, finds what it found before
 pub record Stays {X : Type 0} (apart : (X → Bool) → Type 0) (before after : List X) : Type 0 where
   pub found : (test : X → Bool) → apart test → find test after ≡ find test before
-  -- a law of strings and bytes, by which a caller's search tells two of them apart: it is not of this map
-  pub exact : (x y : List ℕ) → slice_cmp nat_cmp x y ≡ Equal → x ≡ y
+  pub exact : ExactBytes
 
 -- the query q finds w (`None`: nothing), and each one that finds no key that q finds what it found before
 pub record Finds {K Q V : Type 0} (order : K → Q → Ordering) (q : Q) (w : Option V) (before after : List (K × V)) : Type 0 where
@@ -53,6 +56,7 @@ IsKeyTest {K} {V} cmp test = (x y : K × V) → test x ≡ true → test y ≡ i
 pub record Overlays {K V : Type 0} (cmp : K → K → Ordering) (A B M : List (K × V)) : Type 0 where
   pub all : (test : K × V → Bool) → IsKeyTest cmp test
       → option_map (λ p. p.1) (find test M) ≡ option_or (option_map (λ p. p.1) (find test B)) (option_map (λ p. p.1) (find test A))
+  pub exact : ExactBytes
 
 -- a query finds in D what it finds in A if it finds something in B, else nothing
 pub record Displaces {K V : Type 0} (cmp : K → K → Ordering) (A B D : List (K × V)) : Type 0 where
