@@ -1,2 +1,3 @@
 -- Lemmas of the proofs.
+pub mod Loops
 pub mod Vectors
