@@ -93,6 +93,7 @@ impl Levels {
     }
 
     /// Adds all amounts of others, price by price.
+    #[tactic(auto, using(litemap::proofs::Loops::number_sums))]
     pub fn add_all(&mut self, others: &Levels) -> Result<(), AllocError>
         requires { (price : _) → number_at self.old price + number_at others.now price ≤ u64.MAX }
         ensures { OnOk result ((price : _) → number_at self.new price

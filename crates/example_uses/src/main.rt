@@ -9,6 +9,7 @@ pub mod closures;
 pub mod collection;
 pub mod config;
 pub mod counting;
+pub mod groups;
 pub mod headers;
 pub mod keywords;
 pub mod levels;

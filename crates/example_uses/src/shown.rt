@@ -9,6 +9,7 @@ use crate::calendar::{self, Calendar};
 use crate::closures::{self, Access, Zone};
 use crate::collection::{self, Config};
 use crate::counting::{self, Names};
+use crate::groups::grouped;
 use crate::headers::{self, Borrowed, Headers};
 use crate::levels::Levels;
 use crate::made::value_or_made;
@@ -57,6 +58,7 @@ pub(crate) fn show(rt: &impl Print, alloc: Global) -> anyhow::Result<()> {
     show_totals(rt, alloc, 98)?;
     show_totals(rt, alloc, u32::MAX)?;
     show_counts(rt, alloc)?;
+    show_groups(rt, alloc)?;
     show_words(rt, alloc)?;
     show_bag(rt, alloc)?;
     show_trees(rt, alloc)?;
@@ -386,7 +388,11 @@ fn show_balances(rt: &impl Print, alloc: Global) -> io::Result<()> {
         let closed = sums::close(&mut balances, account);
         println!(rt; "{account} corrected from {corrected:?}, closed at {closed:?}")?;
     }
-    println!(rt; "left {balances:?}")
+    let posted = [
+        sums::post(&mut balances, 1, 6)?,
+        sums::post(&mut balances, 1, i64::MAX)?,
+    ];
+    println!(rt; "posted {posted:?}, left {balances:?}")
 }
 
 // Amounts at prices that are set, added, lowered and taken away.
@@ -417,6 +423,15 @@ fn show_counts(rt: &impl Print, alloc: Global) -> io::Result<()> {
     let counts = counting::count_words(alloc, words.as_slice())?;
     println!(rt; "words {counts:?}")?;
     println!(rt; "names {:?}", counted_names(alloc)?)
+}
+
+// The numbers at two names.
+fn show_groups(rt: &impl Print, alloc: Global) -> io::Result<()> {
+    let mut pairs = Vec::new(alloc);
+    for (name, number) in [("b", 3), ("a", 1), ("b", 2)] {
+        pairs.push((name.to_string(alloc)?, number))?;
+    }
+    println!(rt; "groups {:?}", grouped(alloc, pairs.as_slice())?)
 }
 
 fn counted_names(alloc: Global) -> Result<Names, AllocError> {

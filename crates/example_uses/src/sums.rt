@@ -1,7 +1,7 @@
 //! Sparse vectors: numbers at indices, 0 where there is none. Numbers at names, and balances, which are signed.
 ghost use Rattle.std.specs.Prelude.{◌≡◌, ◌+◌, ◌+ℤ◌, ◌<◌, ◌≤◌, bytes_eq, if◌then◌else◌, pos, sum_by};
-ghost use Rattle.litemap.specs.Words.{All, IfOk, IfSome, IsFalse, IsTrue, IsUnchanged, OnErr, OnOk, at, by_string, found_with};
-ghost use Rattle.litemap.specs.Words.{get_by_text, int_sum, min, put, string_bytes, string_cmp, sum, unwrap_or, values};
+ghost use Rattle.litemap.specs.Words.{All, IfOk, IfSome, IsFalse, IsTrue, IsUnchanged, OnErr, OnOk, at, by_string, found_with, get};
+ghost use Rattle.litemap.specs.Words.{get_by_text, int_sum, min, nat_cmp, put, string_bytes, string_cmp, sum, unwrap_or, values};
 ghost use Rattle.example_uses.specs.Vectors.{number_at};
 
 use litemap::store::NoRoom;
@@ -121,10 +121,28 @@ pub fn set_balance(
     account: u32,
     balance: i64,
 ) -> Result<Option<i64>, AllocError>
-    ensures { IfOk result (λ old. int_sum (values balances.new) +ℤ unwrap_or old (pos 0)
+    ensures old { IfOk result (λ old. old ≡ get nat_cmp balances.old account) }
+    ensures sum { IfOk result (λ old. int_sum (values balances.new) +ℤ unwrap_or old (pos 0)
         ≡ int_sum (values balances.old) +ℤ balance) }
+    ensures unchanged { OnErr result (IsUnchanged balances.old balances.new) }
 {
     Ok(balances.insert(account, balance)?)
+}
+
+/// Adds to the balance of an account, and returns whether it fits. The sum of all grows by that.
+#[tactic(auto, using(litemap::proofs::Sums::signed_sums))]
+pub fn post(balances: &mut Balances, account: u32, amount: i64) -> Result<bool, AllocError>
+    ensures posted { IfOk result (λ fits. IsTrue fits
+        → int_sum (values balances.new) ≡ int_sum (values balances.old) +ℤ amount) }
+    ensures refused { IfOk result (λ fits. IsFalse fits → IsUnchanged balances.old balances.new) }
+    ensures unchanged { OnErr result (IsUnchanged balances.old balances.new) }
+{
+    let balance = balances.get(&account).copied().unwrap_or(0);
+    let Some(sum) = balance.checked_add(amount) else {
+        return Ok(false);
+    };
+    set_balance(balances, account, sum)?;
+    Ok(true)
 }
 
 /// Closes an account, and returns its balance. The sum of all is less by that.

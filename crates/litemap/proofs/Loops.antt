@@ -1,16 +1,31 @@
 -- For callers with a loop.
 --     text_counts      counts and sums for each string: what lookups find once a string has been put, and std's lemmas on the list so
 --                      far. The invariant says it of all strings, with `bytes_eq` as the test
---     number_first, number_first_sum      what a key finds among the pairs to come, and what it finds after the first: of a number
-use Rattle.std.proofs.Common.{◌⊎◌, if◌then◌else◌, nat_eq}
-use Rattle.std.proofs.lemmas.List.Sums.{count_by-le-length, fold_more, fold_push, sum_by_more_le, sum_by_more_le_part}
+--     text_groups      lists at strings, by a call that says what one string finds, and that all others stay
+--     number_sums      the number that a key finds, as a sum over the list: in a loop over one map that changes another
+use Rattle.std.proofs.Common.{◌⊎◌, Bool, [], bytes_eq, if◌then◌else◌, nat_eq, sum_by}
+use Rattle.std.proofs.lemmas.Grind.{take_at_read}
+use Rattle.std.proofs.lemmas.List.{append-nil, map-append}
+use Rattle.std.proofs.lemmas.List.Elements.{filter-append}
+use Rattle.std.proofs.lemmas.List.Sums.{count_by-le-length, fold_more, fold_push, sum_by-cons, sum_by_from, sum_by_more_le, sum_by_more_le_part}
 use Rattle.std.proofs.lemmas.Map.Lookups.{exact_unsigned}
+use Rattle.std.specs.Cmp.Lexicographic.{bytes_decides}
 use Rattle.litemap.proofs.Common.{◌≡◌, ◌≢◌, ◌∙◌, ◌+◌, ◌∷◌, ℕ, List, None, Some, Ordering, Less, Equal, Greater, Rising, ap, arith, false, inl, inr, is_eq}
 use Rattle.litemap.proofs.Common.{nat_cmp, nat_cmp_total, refl, rules, subst, sym, tied_itself, true, unwrap_or, value_at}
 use Rattle.litemap.proofs.Keys.{key_first_only}
 use Rattle.litemap.proofs.Texts.{text_put_cases}
 
 pub ruleset text_counts = (text_put_cases, fold_more, fold_push, sum_by_more_le, sum_by_more_le_part, count_by-le-length)
+
+-- two strings are one, or they differ
+pub text_cases : (t u : List ℕ) → (bytes_eq t u ≡ bytes_eq t u) × (((bytes_eq t u ≡ true) × (t ≡ u)) ⊎ ((bytes_eq t u ≡ false) × (t ≢ u)))
+text_cases t u = (refl, by (bytes_eq t u) refl)
+  where
+    by : (b : Bool) → bytes_eq t u ≡ b → ((bytes_eq t u ≡ true) × (t ≡ u)) ⊎ ((bytes_eq t u ≡ false) × (t ≢ u))
+    by true e = inl (e, (bytes_decides t u).0 e)
+    by false e = inr (e, λ s. let y : bytes_eq t u ≡ true = (bytes_decides t u).1 s in absurd (cc))
+
+pub ruleset text_groups = (text_cases, take_at_read, filter-append, map-append, append-nil)
 
 same_test : (k q : ℕ) → is_eq (nat_cmp k q) ≡ nat_eq q k
 same_test k q = search rules
@@ -42,10 +57,18 @@ module _ {V : Type 0} (L M : List (ℕ × V)) (p : ℕ × V) (q : ℕ) where
           let later : value_at nat_cmp (p ∷ M) q ≡ value_at nat_cmp M q = rw c refl in
           inr (apart Greater c (λ f. absurd (cc)), sym s ∙ ap is_eq c, sym (v ∙ later))
 
-pub number_first_sum : (L M : List (ℕ × ℕ)) (p : ℕ × ℕ) (q : ℕ) → L ≡ p ∷ M → Rising nat_cmp L
+number_first_sum : (L M : List (ℕ × ℕ)) (p : ℕ × ℕ) (q : ℕ) → L ≡ p ∷ M → Rising nat_cmp L
     → unwrap_or (value_at nat_cmp L q) 0 ≡ unwrap_or (value_at nat_cmp M q) 0 + (if nat_eq q p.0 then p.1 else 0)
 number_first_sum L M p q e r = by (number_first L M p q e r)
   where
     by : ByFirst L M p q → unwrap_or (value_at nat_cmp L q) 0 ≡ unwrap_or (value_at nat_cmp M q) 0 + (if nat_eq q p.0 then p.1 else 0)
     by (inl (a, b, c, d)) = rw (b, c, d) (omega arith)
     by (inr (a, b, c)) = rw (b, c) (omega arith)
+
+pub found_sum : (L : List (ℕ × ℕ)) (q : ℕ) → Rising nat_cmp L
+    → unwrap_or (value_at nat_cmp L q) 0 ≡ sum_by (λ p. if nat_eq q p.0 then p.1 else 0) L
+found_sum [] q r = refl
+found_sum (p ∷ L) q r =
+    omega (arith, number_first_sum (p ∷ L) L p q refl r, found_sum L q r.1, sum_by-cons (λ (x : ℕ × ℕ). if nat_eq q x.0 then x.1 else 0) p L)
+
+pub ruleset number_sums = (found_sum, sum_by_from)
