@@ -11,7 +11,7 @@ import pathlib
 import runpy
 
 FOLDER = pathlib.Path(__file__).resolve().parent
-KINDS = {name: runpy.run_path(str(FOLDER / f"{name}_rows.py")) for name in ("json", "serde", "table")}
+KINDS = {name: runpy.run_path(str(FOLDER / f"{name}_rows.py")) for name in ("json", "read", "serde", "table")}
 SIZES = runpy.run_path(str(FOLDER / "size_rows.py"))
 # A row of many lookups, and long maps that are read and written, of so many pairs: bin/requests bounds their time.
 MANY = 200000

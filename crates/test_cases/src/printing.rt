@@ -3,7 +3,7 @@ use crate::{Outcome, all_right};
 use litemap::store::NoRoom;
 use litemap::{LiteMap, TryFault, VecMap};
 use litemap_columns::ColumnMap;
-use litemap_json::{ItemFault, JsonFault, WriteFault};
+use litemap_json::{ItemFault, JsonFault, TextFault, WriteFault};
 use litemap_read::ReadFault;
 use std::alloc::{AllocError, Global};
 use std::error::Error;
@@ -118,6 +118,7 @@ pub(crate) fn an_error_writes_what_it_is(alloc: Global) -> Outcome {
         TryFault::<u8, u8, AllocError>::NoRoom { key: 1, value: 2 },
         WriteFault::Memory,
         JsonFault::Memory,
+        TextFault::Memory,
     };
     all_right(&[
         all_right(&of_memory),

@@ -6,7 +6,7 @@ ghost use Rattle.litemap_short.specs.contracts.short_store.ShortStore.{the_row};
 
 use crate::falling::Falling;
 use crate::kinds::one_of;
-use crate::{Output, Written, told};
+use crate::{Output, Written, read_rows, told};
 use example_formats::evens::Even;
 use example_formats::levels::Level;
 use example_formats::overlay::{OverlayFault, Settings, overlay};
@@ -29,22 +29,6 @@ pub fn answer(alloc: Global, line: &str) -> Output {
         return String::from_str(alloc, "no types");
     };
     match types {
-        "u8" => written::<u8, u8>(alloc, text),
-        "u16" => written::<u16, u16>(alloc, text),
-        "u32" => written::<u32, u32>(alloc, text),
-        "u64" => written::<u64, u64>(alloc, text),
-        "i8" => written::<i8, i8>(alloc, text),
-        "i16" => written::<i16, i16>(alloc, text),
-        "i32" => written::<i32, i32>(alloc, text),
-        "i64" => written::<i64, i64>(alloc, text),
-        "bool" => written::<bool, bool>(alloc, text),
-        "text" => written::<String, String>(alloc, text),
-        "falling" => written::<Falling, String>(alloc, text),
-        "flags" => written::<bool, u32>(alloc, text),
-        "words" => written::<u32, String>(alloc, text),
-        "evens" => written::<Even, String>(alloc, text),
-        "tongues" => written::<(u32, String), String>(alloc, text),
-        "levels" => written::<Level, u32>(alloc, text),
         "inserted" => inserted(alloc, text),
         "limits" => copied_limits(alloc, text),
         "names" => copied_names(alloc, text),
@@ -52,8 +36,43 @@ pub fn answer(alloc: Global, line: &str) -> Output {
         "told" => told::answer(alloc, text),
         "rewrite" => rewritten(alloc, text.as_bytes()),
         "value" => written_value(alloc, text),
-        "nested" => written::<((u8, bool), String), (u32, (bool, i8))>(alloc, text),
+        _ => of_types(alloc, "json", types, text),
+    }
+}
+
+/// Returns what a way of reading makes of a text, at the types of a name.
+pub fn of_types(alloc: Global, way: &str, types: &str, text: &str) -> Output {
+    match types {
+        "u8" => asked::<u8, u8>(alloc, way, text),
+        "u16" => asked::<u16, u16>(alloc, way, text),
+        "u32" => asked::<u32, u32>(alloc, way, text),
+        "u64" => asked::<u64, u64>(alloc, way, text),
+        "i8" => asked::<i8, i8>(alloc, way, text),
+        "i16" => asked::<i16, i16>(alloc, way, text),
+        "i32" => asked::<i32, i32>(alloc, way, text),
+        "i64" => asked::<i64, i64>(alloc, way, text),
+        "bool" => asked::<bool, bool>(alloc, way, text),
+        "text" => asked::<String, String>(alloc, way, text),
+        "falling" => asked::<Falling, String>(alloc, way, text),
+        "flags" => asked::<bool, u32>(alloc, way, text),
+        "words" => asked::<u32, String>(alloc, way, text),
+        "evens" => asked::<Even, String>(alloc, way, text),
+        "tongues" => asked::<(u32, String), String>(alloc, way, text),
+        "levels" => asked::<Level, u32>(alloc, way, text),
+        "senders" => asked::<String, Level>(alloc, way, text),
+        "nested" => asked::<((u8, bool), String), (u32, (bool, i8))>(alloc, way, text),
         _ => String::from_str(alloc, "no such types"),
+    }
+}
+
+fn asked<K: JsonKey + Drop, V: JsonItem + Drop>(alloc: Global, way: &str, text: &str) -> Output
+    requires { FitsInMemory (the_row K.row V.row global.the_row ghosts) }
+{
+    match way {
+        "json" => written::<K, V>(alloc, text),
+        "read" => read_rows::read::<K, V>(alloc, text),
+        "repeated" => read_rows::repeated::<K, V>(alloc, text),
+        _ => read_rows::swept::<K, V>(alloc, way, text),
     }
 }
 
@@ -69,8 +88,8 @@ fn written<K: JsonKey + Drop, V: JsonItem + Drop>(alloc: Global, text: &str) -> 
     one_of(alloc, vector, columns, short)
 }
 
-// The same over one store.
-fn written_over<K: JsonKey + Drop, V: JsonItem + Drop, S: StoreBulkMut<K, V, Alloc = Global>>(
+/// The same over one store.
+pub fn written_over<K: JsonKey + Drop, V: JsonItem + Drop, S: StoreBulkMut<K, V, Alloc = Global>>(
     alloc: Global,
     value: &Value,
 ) -> Output {
@@ -153,8 +172,8 @@ fn written_value(alloc: Global, text: &str) -> Output {
     }
 }
 
-// The map as JSON, by `to_json` and `write_json`, or why it was not read or not written.
-fn shown<K: JsonKey + Drop, V: JsonItem + Drop, S: Store<K, V> + Drop>(
+/// The map as JSON, by `to_json` and `write_json`, or why it was not read or not written.
+pub fn shown<K: JsonKey + Drop, V: JsonItem + Drop, S: Store<K, V> + Drop>(
     alloc: Global,
     map: Result<LiteMap<K, V, S>, JsonFault>,
 ) -> Output {

@@ -1,4 +1,4 @@
-//! Maps that are read and written, and calls of maps, as rows: each line of standard input is one of five kinds, by its first
+//! Maps that are read and written, and calls of maps, as rows: each line of standard input is one of six kinds, by its first
 //! word, and has a line of standard output. Models in Python (`model.py`) make the input and tell the output.
 //!
 //! - `json TYPES TEXT`: what the map that a JSON text is read as is written as, or why it was not read or not written. `TYPES`
@@ -6,6 +6,7 @@
 //!   `rewrite` is read over a vector, over two columns and over a short store, and the line shows if the outputs differ. `json
 //!   told TYPES TEXT`: the error as it is shown to people (`told`). `json rewrite TEXT`: what `rewrite_flags` makes of a text.
 //!   `json inserted NUMBER:WORD ..`: what a map is written as, into which these are inserted.
+//! - `read ..`: what `read_json` makes of a text, and `from_json` of its tree (`read_rows`).
 //! - `serde WHAT TEXT`: what is written of what a JSON text is read as through serde, or why not (`serde_rows`). For TOML and CSV
 //!   `TEXT` is the JSON string of one.
 //! - `table ..`: what is read, found or written of the bytes of a name table or an index of names (`table_rows`).
@@ -56,6 +57,7 @@ mod falling;
 mod indexes;
 mod json_rows;
 mod kinds;
+mod read_rows;
 mod serde_rows;
 mod sizes;
 mod sweeps;
@@ -103,6 +105,7 @@ fn answer_line(alloc: Global, line: &str) -> Output {
     match line.split_once(' ') {
         Some(("table", row)) => table_rows::answer(alloc, row),
         Some(("json", row)) => json_rows::answer(alloc, row),
+        Some(("read", row)) => read_rows::answer(alloc, row),
         Some(("serde", row)) => serde_rows::answer(alloc, row),
         Some(("#", _title)) => String::from_str(alloc, line),
         _ => sizes::answer(alloc, line),

@@ -5,6 +5,12 @@ use name_table::{NameWriteFault, read_names, write_names};
 use std::alloc::{AllocError, Global};
 use std::fmt::Write;
 
+/// What reads many cases.
+pub trait Cases {
+    /// Reads one more case, and adds what is read of it.
+    fn add(&mut self, alloc: Global, bytes: &[u8]) -> Written;
+}
+
 /// How many cases were read, and what came of them.
 #[derive(Drop)]
 pub struct Tally {
@@ -21,24 +27,8 @@ impl Tally {
         Tally {
             of_indexes,
             counts: [0; 6],
-            checksum: 0xcbf2_9ce4_8422_2325,
+            checksum: SUM_OF_NONE,
         }
-    }
-
-    // Reads one more case, and adds what is read of it.
-    fn add(&mut self, alloc: Global, bytes: &[u8]) -> Written {
-        let mut text = String::new(alloc);
-        if self.of_indexes {
-            indexes::write_opened(bytes, &mut text)?;
-            self.count(text.as_str(), true);
-        } else {
-            texts::write_read(alloc, bytes, &mut text)?;
-            self.count(text.as_str(), is_read_again(alloc, bytes)?);
-            text.clear();
-            tables::write_answer(alloc, &["table"], bytes, &mut text)?;
-            self.sum(text.as_str());
-        }
-        Ok(())
     }
 
     // Counts a case by its text.
@@ -58,9 +48,7 @@ impl Tally {
     }
 
     fn sum(&mut self, text: &str) {
-        for byte in text.bytes() {
-            self.checksum = (self.checksum ^ u64::from(byte)).wrapping_mul(0x0000_0100_0000_01b3);
-        }
+        self.checksum = sum(self.checksum, text);
     }
 
     /// Writes the numbers.
@@ -73,6 +61,35 @@ impl Tally {
             self.checksum
         )
     }
+}
+
+impl Cases for Tally {
+    fn add(&mut self, alloc: Global, bytes: &[u8]) -> Written {
+        let mut text = String::new(alloc);
+        if self.of_indexes {
+            indexes::write_opened(bytes, &mut text)?;
+            self.count(text.as_str(), true);
+        } else {
+            texts::write_read(alloc, bytes, &mut text)?;
+            self.count(text.as_str(), is_read_again(alloc, bytes)?);
+            text.clear();
+            tables::write_answer(alloc, &["table"], bytes, &mut text)?;
+            self.sum(text.as_str());
+        }
+        Ok(())
+    }
+}
+
+/// The checksum of no text.
+pub const SUM_OF_NONE: u64 = 0xcbf2_9ce4_8422_2325;
+
+/// The checksum with one text more.
+pub fn sum(checksum: u64, text: &str) -> u64 {
+    let mut sum = checksum;
+    for byte in text.bytes() {
+        sum = (sum ^ u64::from(byte)).wrapping_mul(0x0000_0100_0000_01b3);
+    }
+    sum
 }
 
 // Whether what is written for the bytes' map is read as the same map, and is no longer; so too if no map is read.
@@ -91,15 +108,15 @@ fn is_read_again(alloc: Global, bytes: &[u8]) -> Result<bool, AllocError> {
 }
 
 /// Each proper prefix.
-pub fn prefixes(alloc: Global, bytes: &[u8], tally: &mut Tally) -> Written {
+pub fn prefixes<C: Cases>(alloc: Global, bytes: &[u8], cases: &mut C) -> Written {
     for size in 0..bytes.len() {
-        tally.add(alloc, &bytes[..size])?;
+        cases.add(alloc, &bytes[..size])?;
     }
     Ok(())
 }
 
 /// Each change of one byte.
-pub fn changes(alloc: Global, bytes: &[u8], tally: &mut Tally) -> Written {
+pub fn changes<C: Cases>(alloc: Global, bytes: &[u8], cases: &mut C) -> Written {
     for (place, byte) in bytes.iter().enumerate() {
         for value in 0..=255u8 {
             if value != *byte {
@@ -107,36 +124,45 @@ pub fn changes(alloc: Global, bytes: &[u8], tally: &mut Tally) -> Written {
                 if let Some(byte) = changed.get_mut(place) {
                     *byte = value;
                 }
-                tally.add(alloc, changed.as_slice())?;
+                cases.add(alloc, changed.as_slice())?;
             }
         }
     }
     Ok(())
 }
 
-/// Each string of up to four of these bytes.
-pub fn strings(alloc: Global, bytes: &[u8], tally: &mut Tally) -> Written {
+/// Each string of up to so many of these parts, after a head and before a tail.
+pub fn strings<C: Cases>(
+    alloc: Global,
+    most: usize,
+    ends: [&[u8]; 2],
+    parts: &[&[u8]],
+    cases: &mut C,
+) -> Written {
     let mut total = 1usize;
-    for size in 0..5 {
+    for size in 0..=most {
         for code in 0..total {
-            add_string(alloc, bytes, size, code, tally)?;
+            let [head, tail] = ends;
+            let mut text = head.to_vec(alloc)?;
+            push_string(parts, size, code, &mut text)?;
+            text.extend_from_slice(tail)?;
+            cases.add(alloc, text.as_slice())?;
         }
-        total = total.wrapping_mul(bytes.len());
+        total = total.wrapping_mul(parts.len());
     }
     Ok(())
 }
 
-// The string of a size that is spelled by a number in the base of the bytes, the lowest digit first.
-fn add_string(alloc: Global, bytes: &[u8], size: usize, code: usize, tally: &mut Tally) -> Written {
-    let base = bytes.len();
+// Adds the string of a size that is spelled by a number in the base of the parts, the lowest digit first.
+fn push_string(parts: &[&[u8]], size: usize, code: usize, text: &mut Vec<u8>) -> Written {
+    let base = parts.len();
     if base == 0 {
         return Ok(());
     }
-    let mut text = Vec::new(alloc);
     let mut left = code;
     for _ in 0..size {
-        text.push(bytes[left % base])?;
+        text.extend_from_slice(parts[left % base])?;
         left /= base;
     }
-    tally.add(alloc, text.as_slice())
+    Ok(())
 }

@@ -129,7 +129,10 @@ fn sweep(alloc: Global, name: &str, bytes: &[u8], output: &mut String) -> Writte
     match name {
         "prefixes" | "cuts" => sweeps::prefixes(alloc, bytes, &mut tally)?,
         "changes" | "damages" => sweeps::changes(alloc, bytes, &mut tally)?,
-        "strings" => sweeps::strings(alloc, bytes, &mut tally)?,
+        "strings" => {
+            let parts: Vec<&[u8]> = bytes.chunks(1).collect(alloc)?;
+            sweeps::strings(alloc, 4, [&[], &[]], parts.as_slice(), &mut tally)?;
+        }
         _ => return output.push_str("bad line"),
     }
     tally.write(output)
