@@ -22,6 +22,7 @@ pub mod Parting
 pub mod Parts
 pub mod Places
 pub mod Placing
+pub mod Ported
 pub mod Positions
 pub mod Walks
 pub mod Queried
